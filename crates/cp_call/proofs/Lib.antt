@@ -1,0 +1,10 @@
+pub mod Rows
+pub mod Run
+pub mod Growing
+pub mod Event
+pub mod Calmness
+pub mod WrongRuns
+pub mod Parking
+pub mod Lanes
+pub mod Taking
+pub mod Resting

@@ -1,0 +1,9 @@
+pub mod Object
+pub mod History
+pub mod Life
+pub mod Lane
+pub mod Sound
+pub mod Machine
+pub mod Asker
+pub mod Store
+pub mod Refusals

@@ -1,0 +1,23 @@
+//! The words that engines, shared objects and the outside have in common, and the rules that a run obeys.
+#![tactic(auto)]
+
+mod asked;
+mod call;
+mod item;
+mod laws;
+mod outcome;
+mod refused;
+mod traits;
+
+pub use asked::Asked;
+pub use call::{Call, Callers, Entries, Entry, FullBy, ObjectKind, ObjectName, Reply, Terms};
+pub use item::{
+    How, Input, Item, Items, Next, PutReply, RemoteAnswers, RemoteCall, RemoteEnd, RemoteReply,
+};
+pub use laws::{calls_keep_calm, facts_are_taken_once};
+pub use outcome::{
+    EngineEnd, EngineEnds, FactRow, FactRows, OutEntries, OutEntry, Outcome, ParkedRow, ParkedRows,
+    PredEnd, PredEnds, Stand,
+};
+pub use refused::Refused;
+pub use traits::{Asker, Asks, Caller, Machine, Writer};
