@@ -7,3 +7,5 @@ pub mod Machine
 pub mod Asker
 pub mod Store
 pub mod Refusals
+pub mod Setup
+pub mod Added
