@@ -8,3 +8,4 @@ pub mod Parking
 pub mod Lanes
 pub mod Taking
 pub mod Resting
+pub mod Adding

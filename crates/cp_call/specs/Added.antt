@@ -56,6 +56,14 @@ pub record HasAdded (objects : List Object) (seen now : ℕ → List Entry) (wro
   pub refusals : (p : ℕ) (o : Object) → slice_get objects p ≡ Some o → RightRefusalsSince o p (seen p) (now p) n [] added
   pub writes : wrote_now ≡ wrote ++ wrote_entries n added
 
+-- whether an event is neither a call of an object nor a write
+abbrev pub is_silent : Item → Bool
+is_silent (item.Asked object c r) = false
+is_silent (item.Wrote bytes r) = false
+is_silent (item.Remote c r) = true
+is_silent (item.Given c) = true
+is_silent (item.Answered r) = true
+
 -- What a call that works on behalf of engine n leaves as it was in an asker: the objects, whom it asks for, and what it
 -- tells of everybody else, save that it may have seen more of the others.
 pub record AsksForOne (n : ℕ) (objects objects_now : List Object) (serves serves_now : ℕ → Bool) (seen now : ℕ → ℕ → List Entry) (looked looked_now : ℕ → ℕ → ℕ) : Type 0 where

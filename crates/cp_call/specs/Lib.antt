@@ -9,3 +9,4 @@ pub mod Store
 pub mod Refusals
 pub mod Setup
 pub mod Added
+pub mod Running
