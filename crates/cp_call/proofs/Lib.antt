@@ -9,3 +9,4 @@ pub mod Lanes
 pub mod Taking
 pub mod Resting
 pub mod Adding
+pub mod Running
