@@ -8,3 +8,5 @@ pub mod Parking
 pub mod Lanes
 pub mod Taking
 pub mod Resting
+pub mod Adding
+pub mod Running

@@ -25,7 +25,7 @@ use Rattle.cp_call.proofs.Parking.{others-step}
 cons_nil : {X : Type 0} (x : X) (xs : List X) → x ∷ xs ≡ [] → ⊥
 cons_nil x xs h = cc
 
-own_head : (n : ℕ) (e : Entry) (es : List Entry) → own_entries n (e ∷ es) ≡ [] → ((e.caller == n) ≡ false) × (own_entries n es ≡ [])
+pub own_head : (n : ℕ) (e : Entry) (es : List Entry) → own_entries n (e ∷ es) ≡ [] → ((e.caller == n) ≡ false) × (own_entries n es ≡ [])
 own_head n e es h = elim (eqb_tells e.caller n) [
   | inl s ↦ absurd (cons_nil e (own_entries n es) (sym (let z : own_entries n (e ∷ es) ≡ e ∷ own_entries n es = rw s.0 refl in z) ∙ h))
   | inr d ↦ (d.0, sym (let z : own_entries n (e ∷ es) ≡ own_entries n es = rw d.0 refl in z) ∙ h)

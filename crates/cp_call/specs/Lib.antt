@@ -7,3 +7,6 @@ pub mod Machine
 pub mod Asker
 pub mod Store
 pub mod Refusals
+pub mod Setup
+pub mod Added
+pub mod Running

@@ -8,6 +8,7 @@ mod laws;
 mod outcome;
 mod refused;
 mod traits;
+mod wire;
 
 pub use asked::Asked;
 pub use call::{Call, Callers, Entries, Entry, FullBy, ObjectKind, ObjectName, Reply, Terms};
@@ -21,3 +22,4 @@ pub use outcome::{
 };
 pub use refused::Refused;
 pub use traits::{Asker, Asks, Caller, Machine, Writer};
+pub use wire::wire_size;

@@ -8,8 +8,7 @@ ghost use Rattle.cp_fact.specs.Plan.{IsFindPlan, IsMissPlan, IsPlanFor};
 
 use crate::look::{first_seen_at, is_leave_of, is_parked_in};
 use crate::plan::{Change, Plan, is_add_back_of};
-use cp_call::Refused;
-use cp_call::{Call, Entry, FactRow, FullBy, ObjectKind, ParkedRow, Reply};
+use cp_call::{Call, Entry, FactRow, FullBy, ObjectKind, ParkedRow, Refused, Reply};
 use cp_list::ReservedList;
 use cp_term::Term;
 use std::alloc::{AllocError, Global};
@@ -109,7 +108,6 @@ pub fn may_wait(kind: ObjectKind, is_open: bool) -> bool
 
 /// A call that finds this fact, which stays or is taken.
 pub fn found(
-    alloc: Global,
     caller: u32,
     call: Call,
     size: usize,
@@ -123,11 +121,11 @@ pub fn found(
         call,
         recorded: Reply::Found {
             place: row.place,
-            fact: row.fact.copy(alloc)?,
+            fact: row.fact.copy()?,
         },
         reply: Reply::Found {
             place: row.place,
-            fact: row.fact.copy(alloc)?,
+            fact: row.fact.copy()?,
         },
         change: if takes {
             Change::Remove(row.place)
@@ -140,7 +138,6 @@ pub fn found(
 
 /// A call that finds nothing, and waits or not.
 pub fn missed(
-    alloc: Global,
     caller: u32,
     call: Call,
     size: usize,
@@ -158,7 +155,7 @@ pub fn missed(
             reply: Reply::Parked,
             change: Change::Park(ParkedRow {
                 caller,
-                pattern: pattern.copy(alloc)?,
+                pattern: pattern.copy()?,
                 after,
             }),
             cells: size as u64,
@@ -189,8 +186,8 @@ pub fn look_plan(
     ensures { IfOk result (λ p. MatchOption (first_seen facts.now pattern.now after) (IsMissPlan caller call (length pattern.now) pattern.now after waits p) (λ row. IsFindPlan caller call (length pattern.now) row takes p)) }
 {
     match first_seen_at(alloc, facts, pattern, after)? {
-        Some(at) => found(alloc, caller, call, pattern.size() as usize, &facts[at], takes),
-        None => missed(alloc, caller, call, pattern.size() as usize, pattern, after, waits),
+        Some(at) => found(caller, call, pattern.size() as usize, &facts[at], takes),
+        None => missed(caller, call, pattern.size() as usize, pattern, after, waits),
     }
 }
 
@@ -209,28 +206,28 @@ pub fn plan_of(
     match call {
         Call::Next { pattern, after } => {
             let copied = Call::Next {
-                pattern: pattern.copy(alloc)?,
+                pattern: pattern.copy()?,
                 after: *after,
             };
             look_plan(alloc, facts, caller, copied, pattern, *after, false, waits)
         }
         Call::Take { pattern, after } => {
             let copied = Call::Take {
-                pattern: pattern.copy(alloc)?,
+                pattern: pattern.copy()?,
                 after: *after,
             };
             look_plan(alloc, facts, caller, copied, pattern, *after, true, waits)
         }
         Call::NextNb { pattern, after } => {
             let copied = Call::NextNb {
-                pattern: pattern.copy(alloc)?,
+                pattern: pattern.copy()?,
                 after: *after,
             };
             look_plan(alloc, facts, caller, copied, pattern, *after, false, false)
         }
         Call::TakeNb { pattern, after } => {
             let copied = Call::TakeNb {
-                pattern: pattern.copy(alloc)?,
+                pattern: pattern.copy()?,
                 after: *after,
             };
             look_plan(alloc, facts, caller, copied, pattern, *after, true, false)
@@ -271,7 +268,10 @@ pub fn forget(plan: &mut Option<Plan>)
 }
 
 /// Takes room for one entry and one parked caller.
-pub fn make_room(history: &mut ReservedList<Entry>, parked: &mut ReservedList<ParkedRow>) -> Result<(), Refused>
+pub fn make_room(
+    history: &mut ReservedList<Entry>,
+    parked: &mut ReservedList<ParkedRow>,
+) -> Result<(), Refused>
     ensures history { history.new.items ≡ history.old.items }
     ensures parked { parked.new.items ≡ parked.old.items }
     ensures ok { OnOk result ((0 < history.new.spare) × (0 < parked.new.spare)) }
