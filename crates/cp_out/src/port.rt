@@ -1,7 +1,7 @@
 ghost use Rattle.std.specs.Prelude.{◌≡◌, ◌⊎◌, ◌<◌, Bool, true, false, [], ◌∷◌, ◌++◌, OnErr, IfOk};
 ghost use Rattle.cp_call.specs.declared.item.PutReply.{PutReply};
 ghost use Rattle.cp_io.specs.Cause.{Rose};
-ghost use Rattle.cp_out.specs.Port.{any_failed, GrewBy, IsCaused, Records};
+ghost use Rattle.cp_out.specs.Port.{any_failed, is_failure, GrewBy, IsCaused, Records};
 
 use cp_call::{OutEntries, OutEntry, PutReply, Writer};
 use cp_io::{Bytes, Sink, bytes_of};
