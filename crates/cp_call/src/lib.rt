@@ -3,6 +3,7 @@
 
 mod asked;
 mod call;
+mod copies;
 mod item;
 mod laws;
 mod outcome;
@@ -12,6 +13,7 @@ mod wire;
 
 pub use asked::Asked;
 pub use call::{Call, Callers, Entries, Entry, FullBy, ObjectKind, ObjectName, Reply, Terms};
+pub use copies::copy_of;
 pub use item::{
     How, Input, Item, Items, Next, PutReply, RemoteAnswers, RemoteCall, RemoteEnd, RemoteReply,
 };
