@@ -1,5 +1,5 @@
 -- Who is parked: only a caller whose own last entry was replied Parked.
-use Rattle.std.proofs.Common.{◌≡◌, inl, inr, ℕ, ◌==◌, List, [], ◌∷◌, ◌++◌, refl, sym, ◌∙◌, subst, true, false, Bool, not, ◌&&◌, ◌||◌, cond, filter, Option, Some, None, append_assoc}
+use Rattle.std.proofs.Common.{◌≡◌, inl, inr, ℕ, ◌==◌, List, [], ◌∷◌, ◌++◌, refl, sym, ◌∙◌, ap, subst, true, false, Bool, not, ◌&&◌, ◌||◌, cond, filter, Option, Some, None, append_assoc}
 use Rattle.std.specs.Prelude.{ℤ}
 use Rattle.std.specs.List.{list_any}
 use Rattle.std.proofs.lemmas.Bool.Decides.{eqb_tells}
@@ -10,6 +10,7 @@ use Rattle.cp_call.specs.declared.call.Call.TheVariants as call
 use Rattle.cp_call.specs.declared.call.Reply.{Reply}
 use Rattle.cp_call.specs.declared.call.Reply.TheVariants as reply
 use Rattle.cp_call.specs.declared.call.Entry.{Entry}
+use Rattle.cp_call.specs.declared.call.FullBy.{FullBy}
 use Rattle.cp_call.specs.declared.outcome.FactRow.{FactRow}
 use Rattle.cp_call.specs.declared.outcome.ParkedRow.{ParkedRow}
 use Rattle.cp_call.specs.Object.{State, step, is_parked, finds, finds_nothing, removes, closes, reopens, leaves, can_park, suspends, first_seen}
@@ -56,6 +57,15 @@ kept-step n c s m (call.Replace fact) = refl
 kept-step n c s m call.Close = kept_closes n c s (suspends s.kind)
 kept-step n c s m call.Reopen = kept_reopens n c s (suspends s.kind)
 kept-step n c s m call.Leave = kept_leaves n c s m (is_parked s m)
+
+cons_nil : (e : Entry) (es : List Entry) → [] ≡ e ∷ es → ⊥
+cons_nil e es h = cc
+
+-- an object never replies that there is no room
+pub step-not_full : (s : State) (m : ℕ) (c : Call) (by : FullBy) (count : ℕ) → (step s m c).reply ≡ reply.Full by count → ⊥
+step-not_full s m c by count h =
+    let kept : entry_unless_full m c (step s m c).reply [] ≡ record { caller = m; call = c; reply = (step s m c).reply } ∷ [] = kept-step m c s m c in
+    cons_nil (record { caller = m; call = c; reply = (step s m c).reply }) [] (sym (ap (λ r. entry_unless_full m c r []) h) ∙ kept)
 
 or_mono : (b r r' : Bool) → (r ≡ true → r' ≡ true) → b || r ≡ true → b || r' ≡ true
 or_mono true r r' k h = refl

@@ -17,7 +17,7 @@ pub use copies::copy_of;
 pub use item::{
     How, Input, Item, Items, Next, PutReply, RemoteAnswers, RemoteCall, RemoteEnd, RemoteReply,
 };
-pub use laws::{calls_keep_calm, facts_are_taken_once};
+pub use laws::{added_events_agree, calls_keep_calm, facts_are_taken_once, histories_leave_calm, legal_histories_grow, parked_callers_were_told, steps_are_never_full, waiting_workers_rest};
 pub use outcome::{
     EngineEnd, EngineEnds, FactRow, FactRows, OutEntries, OutEntry, Outcome, ParkedRow, ParkedRows,
     PredEnd, PredEnds, Stand,
