@@ -134,7 +134,7 @@ AreRunning-one rule os seen now wrote wrote_now n (suc k) (old ∷ engines) item
           (λ m q d. grows m q (subst (λ x. m ≢ x) e d)) (λ m q d. own m q (subst (λ x. m ≢ x) e d)) (λ m d. same m (subst (λ x. m ≢ x) e d)) run.1,
     )
 
-IsLife-worker : (s : Setup) (stand : Stand) (items : List Item) → is_lane stand ≡ false → IsWorkersLife s.rule items → IsLife s stand items
+pub IsLife-worker : (s : Setup) (stand : Stand) (items : List Item) → is_lane stand ≡ false → IsWorkersLife s.rule items → IsLife s stand items
 IsLife-worker s (stand.Parked object) items e life = life
 IsLife-worker s stand.Left items e life = absurd (let z : ⊥ = cc in z)
 
