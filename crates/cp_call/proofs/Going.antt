@@ -1,6 +1,6 @@
 -- One event of a worker keeps all that holds of a run at every moment.
 use Rattle.std.proofs.Common.{◌≡◌, ◌≢◌, inl, inr, ℕ, zero, suc, ◌+◌, ◌<◌, ◌≤◌, ◌==◌, List, [], ◌∷◌, ◌++◌, length, refl, sym, ◌∙◌, ap, subst, true, false, Bool, ◌&&◌, ◌||◌, arith, Option, Some, None}
-use Rattle.std.specs.Prelude.{slice_get, slice_set, nat_le, nat_lt}
+use Rattle.std.specs.Prelude.{map, slice_get, slice_set, nat_le, nat_lt}
 use Rattle.std.specs.List.{list_all, list_any}
 use Rattle.std.proofs.lemmas.Bool.Decides.{eqb_tells}
 use Rattle.std.proofs.lemmas.Bool.{and_parts, and_from, le-leb}
@@ -29,9 +29,9 @@ use Rattle.cp_call.specs.Object.{State, step}
 use Rattle.cp_call.specs.History.{MayFollow, state_after, Limit}
 use Rattle.cp_call.specs.Asker.{IsFull, IsFullBy}
 use Rattle.cp_call.specs.Life.{Rule, IsWorkersLife, IsRequest, pending_request}
-use Rattle.cp_call.specs.Sound.{Object, Setup, own_entries, own_writes, entry_unless_full, Agrees, IsLife, IsTied, AreTied, IsKept, AreKept, Tied, Going, history_in, history_at, is_engine, has_callers, is_lane, has_failed, stays_failed}
+use Rattle.cp_call.specs.Sound.{Object, Setup, own_entries, own_writes, entry_unless_full, Agrees, AgreeFrom, IsLife, IsTied, AreTied, IsKept, AreKept, Tied, Going, history_in, history_at, is_engine, has_callers, is_lane, has_failed, stays_failed}
 use Rattle.cp_call.specs.Added.{HasAdded}
-use Rattle.cp_call.specs.Progress.{with_event, with_entry, IsCalled, IsRefused, IsWritten, IsElsewhere, IsReplied, IsAnswered, GoesOn}
+use Rattle.cp_call.specs.Progress.{with_event, with_entry, IsCalled, IsRefused, IsWritten, IsElsewhere, IsReplied, IsAnswered, GoesOn, GoesOnBy, Pick, new_engines, new_object, beginning}
 use Rattle.cp_call.proofs.Growing.{append_nil, Legal-push, state_after-push, IsWorkersLife-push}
 use Rattle.cp_call.proofs.Calmness.{Calm-state_after}
 use Rattle.cp_call.proofs.Event.{Agrees-others}
@@ -415,3 +415,43 @@ pub Going-event : (s : Setup) (before : Outcome) (k : ℕ) (i : Item) (after : O
 Going-event s before k i after g e =
     Going-move s before after k i e.engine e.engine_at e.worker e.due e.engines
     (IsMove-answered s before after (k + 1) i (is_engine-place (length before.engines) k (slice_get_within before.engines k e.engine e.engine_at)) g e.answered) g
+
+-- A list of events keeps it too, whichever worker each of them is of.
+pub Going-events : (s : Setup) (before : Outcome) (picks : List Pick) (after : Outcome) → Going s before → GoesOnBy s before picks after → Going s after
+Going-events s before [] after g e = subst (Going s) e g
+Going-events s before (p ∷ picks) after g e = Going-events s e.0 picks after (Going-event s before p.place p.event e.0 g e.1.0) e.1.1
+
+AreKept-new : (os : List Object) → AreKept os (map new_object os)
+AreKept-new [] = tt
+AreKept-new (o ∷ os) = (record { name = refl; opening = refl; legal = tt; facts = refl; is_open = refl; parked = refl; calm = Calm-state_after o.kind o.opening [] }, AreKept-new os)
+
+history_at-new : (os : List Object) (p : ℕ) → history_at (map new_object os) p ≡ []
+history_at-new [] p = refl
+history_at-new (o ∷ os) zero = refl
+history_at-new (o ∷ os) (suc p) = history_at-new os p
+
+AgreeFrom-new : (p : ℕ) (os : List Object) (history : ℕ → List Entry) (n : ℕ) → ((q : ℕ) → history q ≡ []) → AgreeFrom p os history n []
+AgreeFrom-new p [] history n none = tt
+AgreeFrom-new p (o ∷ os) history n none = (record { entries = ap (own_entries n) (none p); refusals = tt }, AgreeFrom-new (p + 1) os history n none)
+
+AreTied-new : (s : Setup) (n count : ℕ) → AreTied s (map new_object s.objects) [] n (new_engines n count)
+AreTied-new s n zero = tt
+AreTied-new s n (suc count) = (
+  record {
+    number = refl;
+    life = tt;
+    agrees = record { known = refl; asked = AgreeFrom-new 0 s.objects (history_at (map new_object s.objects)) n (history_at-new s.objects); wrote = refl };
+  },
+  AreTied-new s (n + 1) count,
+)
+
+callers-new : (count : ℕ) (os : List Object) → list_all (has_callers count) (map new_object os) ≡ true
+callers-new count [] = refl
+callers-new count (o ∷ os) = callers-new count os
+
+-- A run that begins is going.
+pub Going-beginning : (s : Setup) (steps workers : ℕ) → Going s (beginning s steps workers)
+Going-beginning s steps workers = record {
+  objects = AreKept-new s.objects;
+  tied = record { engines = AreTied-new s 1 workers; callers = callers-new (length (new_engines 1 workers)) s.objects; writers = refl; failed = refl };
+}

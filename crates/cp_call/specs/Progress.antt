@@ -1,5 +1,6 @@
--- How a run goes on: by one event of one of its workers, which is the answer to the worker's pending request.
-use Rattle.std.specs.Prelude.{ℕ, ◌+◌, ◌≡◌, Bool, true, false, Option, Some, None, List, [], ◌∷◌, ◌++◌, slice_get, slice_set}
+-- How a run goes on: by one event of one of its workers after another, each of which is the answer to the worker's pending
+-- request.
+use Rattle.std.specs.Prelude.{ℕ, zero, suc, ◌+◌, ◌≡◌, Bool, true, false, Option, Some, None, List, [], ◌∷◌, ◌++◌, map, slice_get, slice_set}
 use Rattle.std.specs.List.{list_any}
 use Rattle.cp_call.specs.declared.call.Call.{Call}
 use Rattle.cp_call.specs.declared.call.Reply.{Reply}
@@ -8,11 +9,12 @@ use Rattle.cp_call.specs.declared.call.Entry.{Entry}
 use Rattle.cp_call.specs.declared.item.Item.{Item}
 use Rattle.cp_call.specs.declared.item.Item.TheVariants as item
 use Rattle.cp_call.specs.declared.item.PutReply.{PutReply}
+use Rattle.cp_call.specs.declared.outcome.Stand.TheVariants as stand
 use Rattle.cp_call.specs.declared.outcome.EngineEnd.{EngineEnd}
 use Rattle.cp_call.specs.declared.outcome.PredEnd.{PredEnd}
 use Rattle.cp_call.specs.declared.outcome.OutEntry.{OutEntry}
 use Rattle.cp_call.specs.declared.outcome.Outcome.{Outcome}
-use Rattle.cp_call.specs.Object.{State, step}
+use Rattle.cp_call.specs.Object.{State, step, opening_state}
 use Rattle.cp_call.specs.History.{Limit, MayFollow, state_after}
 use Rattle.cp_call.specs.Life.{IsRequest, pending_request}
 use Rattle.cp_call.specs.Asker.{IsFull}
@@ -83,3 +85,33 @@ pub record GoesOn (s : Setup) (before : Outcome) (k : ℕ) (i : Item) (after : O
   pub due : IsRequest (pending_request s.rule engine.items) i
   pub engines : after.engines ≡ slice_set before.engines k (with_event engine i)
   pub answered : IsAnswered s before (k + 1) i after
+
+-- Which worker goes on, by its place among the engines from 0, and by which event.
+pub record Pick : Type 0 where
+  pub place : ℕ
+  pub event : Item
+
+-- the run goes on from one outcome to another by these events, whichever worker each of them is of
+abbrev pub GoesOnBy : Setup → Outcome → List Pick → Outcome → Type 0
+GoesOnBy s before [] after = before ≡ after
+GoesOnBy s before (p ∷ picks) after = (between : Outcome) × (GoesOn s before p.place p.event between × GoesOnBy s between picks after)
+
+-- so many engines that have done nothing yet, numbered from n on
+abbrev pub new_engines : (n count : ℕ) → List EngineEnd
+new_engines n zero = []
+new_engines n (suc count) = record { number = n; items = []; stand = stand.Parked 0 } ∷ new_engines (n + 1) count
+
+-- an object as it begins
+abbrev pub new_object : Object → PredEnd
+new_object o = record {
+  name = o.name;
+  opening = o.opening;
+  history = [];
+  facts = (opening_state o.kind o.opening).facts;
+  is_open = true;
+  parked = [];
+}
+
+-- a run of so many workers as it begins, where each goal has this step budget
+abbrev pub beginning : Setup → (steps workers : ℕ) → Outcome
+beginning s steps workers = record { steps = steps; engines = new_engines 1 workers; preds = map new_object s.objects; port = [] }
