@@ -36,7 +36,7 @@ use Rattle.cp_call.proofs.Growing.{append_nil, Legal-push, state_after-push, IsW
 use Rattle.cp_call.proofs.Calmness.{Calm-state_after}
 use Rattle.cp_call.proofs.Event.{Agrees-others}
 use Rattle.cp_call.proofs.Adding.{IsPrefix_refl, Agrees-added, HasAdded-asked, HasAdded-wrote, HasAdded-silent}
-use Rattle.cp_call.proofs.Parking.{kept-step, step-not_full}
+use Rattle.cp_call.proofs.Parking.{entry_unless_full-step, step-not_full}
 use Rattle.cp_call.proofs.Running.{stays_failed-push, IsLife-worker}
 
 workers_life : (s : Setup) (stand : Stand) (items : List Item) → is_lane stand ≡ false → IsLife s stand items → IsWorkersLife s.rule items
@@ -300,7 +300,7 @@ IsMove-called s count preds port m p c r o pred o_at pred_at follows engine kept
     not_full by count' h = step-not_full (state_after o.kind o.opening pred.history) m c by count' (sym follows.replied ∙ h)
 
     entry : entry_unless_full m c r [] ≡ e ∷ []
-    entry = subst (λ x. entry_unless_full m c x [] ≡ record { caller = m; call = c; reply = x } ∷ []) (sym follows.replied) (kept-step m c (state_after o.kind o.opening pred.history) m c)
+    entry = subst (λ x. entry_unless_full m c x [] ≡ record { caller = m; call = c; reply = x } ∷ []) (sym follows.replied) (entry_unless_full-step m c (state_after o.kind o.opening pred.history) m c)
 
     mine : own_entries m (history_at preds_now p) ≡ own_entries m (history_at preds p) ++ entry_unless_full m c r []
     mine = ap (own_entries m) here ∙ (own_entries-same m pred.history c r ∙ (ap (λ h. own_entries m h ++ e ∷ []) (sym was_here) ∙ ap (λ x. own_entries m (history_at preds p) ++ x) (sym entry)))
