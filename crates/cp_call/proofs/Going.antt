@@ -1,6 +1,6 @@
 -- One event of a worker keeps all that holds of a run at every moment.
-use Rattle.std.proofs.Common.{◌≡◌, ◌≢◌, inl, inr, ℕ, zero, suc, ◌+◌, ◌<◌, ◌≤◌, ◌==◌, List, [], ◌∷◌, ◌++◌, length, refl, sym, ◌∙◌, ap, subst, true, false, Bool, ◌&&◌, ◌||◌, arith, Option, Some, None}
-use Rattle.std.specs.Prelude.{map, slice_get, slice_set, nat_le, nat_lt}
+use Rattle.std.proofs.Common.{◌≡◌, ◌≢◌, inl, inr, ℕ, zero, suc, ◌+◌, ◌<◌, ◌≤◌, ◌==◌, List, [], ◌∷◌, ◌++◌, length, refl, sym, ◌∙◌, ap, subst, true, false, Bool, ◌&&◌, arith, Some}
+use Rattle.std.specs.Prelude.{map, slice_get, slice_set, nat_le}
 use Rattle.std.specs.List.{list_all, list_any}
 use Rattle.std.proofs.lemmas.Bool.Decides.{eqb_tells}
 use Rattle.std.proofs.lemmas.Bool.{and_parts, and_from, le-leb}
@@ -28,10 +28,10 @@ use Rattle.cp_call.specs.declared.outcome.Outcome.{Outcome}
 use Rattle.cp_call.specs.Object.{State, step}
 use Rattle.cp_call.specs.History.{MayFollow, state_after, Limit}
 use Rattle.cp_call.specs.Asker.{IsFull, IsFullBy}
-use Rattle.cp_call.specs.Life.{Rule, IsWorkersLife, IsRequest, pending_request}
-use Rattle.cp_call.specs.Sound.{Object, Setup, own_entries, own_writes, entry_unless_full, Agrees, AgreeFrom, IsLife, IsTied, AreTied, IsKept, AreKept, Tied, Going, history_in, history_at, is_engine, has_callers, is_lane, has_failed, stays_failed}
+use Rattle.cp_call.specs.Life.{IsWorkersLife, IsRequest, pending_request}
+use Rattle.cp_call.specs.Sound.{Object, Setup, own_entries, own_writes, entry_unless_full, Agrees, AgreeFrom, IsLife, IsTied, AreTied, IsKept, AreKept, Going, history_in, history_at, is_engine, has_callers, is_lane, has_failed, stays_failed}
 use Rattle.cp_call.specs.Added.{HasAdded}
-use Rattle.cp_call.specs.Progress.{with_event, with_entry, IsCalled, IsRefused, IsWritten, IsElsewhere, IsReplied, IsAnswered, GoesOn, GoesOnBy, Pick, new_engines, new_object, beginning}
+use Rattle.cp_call.specs.Progress.{with_event, with_entry, IsCalled, IsRefused, IsReplied, IsAnswered, GoesOn, GoesOnBy, Pick, new_engines, new_object, beginning}
 use Rattle.cp_call.proofs.Growing.{append_nil, Legal-push, state_after-push, IsWorkersLife-push}
 use Rattle.cp_call.proofs.Calmness.{Calm-state_after}
 use Rattle.cp_call.proofs.Event.{Agrees-others}

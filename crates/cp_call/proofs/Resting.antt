@@ -1,5 +1,5 @@
 -- A worker that still waits rests: its last event is the call that was replied Parked.
-use Rattle.std.proofs.Common.{◌≡◌, ◌≢◌, ◌⊎◌, inl, inr, ℕ, ◌==◌, List, [], ◌∷◌, ◌++◌, refl, sym, ◌∙◌, ap, subst, true, false, Bool, cond, filter, append_assoc, Option, Some, None}
+use Rattle.std.proofs.Common.{◌≡◌, ◌⊎◌, inl, inr, ℕ, ◌==◌, List, [], ◌∷◌, ◌++◌, refl, sym, ◌∙◌, ap, subst, true, false, Bool, append_assoc}
 use Rattle.std.specs.Prelude.{MatchBool}
 use Rattle.std.proofs.lemmas.Bool.Decides.{eqb_tells}
 use Rattle.std.proofs.lemmas.List.Elements.{filter-append}
@@ -12,13 +12,12 @@ use Rattle.cp_call.specs.declared.call.FullBy.{FullBy}
 use Rattle.cp_call.specs.declared.call.Entry.{Entry}
 use Rattle.cp_call.specs.declared.item.Item.{Item}
 use Rattle.cp_call.specs.declared.item.Item.TheVariants as item
-use Rattle.cp_call.specs.declared.item.Next.{Next}
 use Rattle.cp_call.specs.declared.item.Next.TheVariants as next
-use Rattle.cp_call.specs.Object.{State, is_parked, step}
-use Rattle.cp_call.specs.History.{state_after, Limit}
+use Rattle.cp_call.specs.Object.{State, is_parked}
+use Rattle.cp_call.specs.History.{state_after}
 use Rattle.cp_call.specs.Life as life
-use Rattle.cp_call.specs.Sound.{Object, own_entries, entry_unless_full, asked_entries, WasFull, IsRight, IsRightEvent, RightRefusals, AgreeOn, EndsParkedOn}
-use Rattle.cp_call.specs.Asker.{IsWaiting, EndsParked}
+use Rattle.cp_call.specs.Sound.{Object, own_entries, entry_unless_full, asked_entries, WasFull, IsRightEvent, RightRefusals, AgreeOn, EndsParkedOn}
+use Rattle.cp_call.specs.Asker.{IsWaiting}
 use Rattle.cp_call.proofs.Growing.{state_after-push, append_nil, asked_entries-append}
 use Rattle.cp_call.proofs.Parking.{others-step}
 

@@ -1,9 +1,9 @@
 -- The workers of a run while it goes on: each event keeps what holds of all of them, and at the end they are tied to the run.
-use Rattle.std.proofs.Common.{◌≡◌, ◌≢◌, inl, inr, ℕ, zero, suc, ◌+◌, ◌<◌, ◌==◌, List, [], ◌∷◌, ◌++◌, length, refl, sym, ◌∙◌, ap, subst, true, false, Bool, ◌&&◌, ◌||◌, arith, Option, Some, None}
+use Rattle.std.proofs.Common.{◌≡◌, ◌≢◌, inl, inr, ℕ, zero, suc, ◌+◌, ◌<◌, ◌==◌, List, [], ◌∷◌, ◌++◌, length, refl, sym, ◌∙◌, ap, subst, true, false, Bool, ◌&&◌, ◌||◌, arith, Some}
 use Rattle.std.specs.Prelude.{slice_get, slice_set, replicate}
 use Rattle.std.specs.List.{list_all, list_any}
 use Rattle.std.proofs.lemmas.Bool.Decides.{eqb_tells}
-use Rattle.std.proofs.lemmas.Bool.{and_parts, and_from}
+use Rattle.std.proofs.lemmas.Bool.{and_from}
 use Rattle.std.proofs.lemmas.Option.{slice_get_within}
 use Rattle.std.proofs.lemmas.List.Elements.{filter-append}
 use Rattle.std.proofs.lemmas.List.Folds.{list_all-append}
@@ -26,10 +26,10 @@ use Rattle.cp_call.specs.declared.outcome.PredEnd.{PredEnd}
 use Rattle.cp_call.specs.declared.outcome.OutEntry.{OutEntry}
 use Rattle.cp_call.specs.Asker.{entry_added, IsFullBy}
 use Rattle.cp_call.specs.Life.{Rule, IsWorkersLife, pending_request}
-use Rattle.cp_call.specs.Sound.{Object, Setup, own_entries, own_writes, Agrees, AgreeFrom, IsLife, IsTied, AreTied, history_at, is_engine, is_lane, has_failed, stays_failed}
+use Rattle.cp_call.specs.Sound.{Object, Setup, own_entries, own_writes, Agrees, AgreeFrom, IsLife, AreTied, history_at, is_engine, is_lane, has_failed, stays_failed}
 use Rattle.cp_call.specs.Added.{HasAdded, AsksForOne, WritesForOne}
-use Rattle.cp_call.specs.Running.{IsRunning, AreRunning, IsWorkerEnd, AreWorkerEnds}
-use Rattle.cp_call.proofs.Growing.{append_nil, IsWorkersLife-push}
+use Rattle.cp_call.specs.Running.{IsRunning, AreRunning, AreWorkerEnds}
+use Rattle.cp_call.proofs.Growing.{IsWorkersLife-push}
 use Rattle.cp_call.proofs.Event.{Agrees-others}
 use Rattle.cp_call.proofs.Adding.{Agrees-added, HasAdded-asked, HasAdded-wrote, HasAdded-silent}
 use Rattle.cp_call.proofs.Resting.{own_head}

@@ -1,6 +1,6 @@
 -- How a run goes on: by one event of one of its workers after another, each of which is the answer to the worker's pending
 -- request.
-use Rattle.std.specs.Prelude.{ℕ, zero, suc, ◌+◌, ◌≡◌, Bool, true, false, Option, Some, None, List, [], ◌∷◌, ◌++◌, map, slice_get, slice_set}
+use Rattle.std.specs.Prelude.{ℕ, zero, suc, ◌+◌, ◌≡◌, true, false, Some, List, [], ◌∷◌, ◌++◌, map, slice_get, slice_set}
 use Rattle.std.specs.List.{list_any}
 use Rattle.cp_call.specs.declared.call.Call.{Call}
 use Rattle.cp_call.specs.declared.call.Reply.{Reply}
@@ -12,9 +12,8 @@ use Rattle.cp_call.specs.declared.item.PutReply.{PutReply}
 use Rattle.cp_call.specs.declared.outcome.Stand.TheVariants as stand
 use Rattle.cp_call.specs.declared.outcome.EngineEnd.{EngineEnd}
 use Rattle.cp_call.specs.declared.outcome.PredEnd.{PredEnd}
-use Rattle.cp_call.specs.declared.outcome.OutEntry.{OutEntry}
 use Rattle.cp_call.specs.declared.outcome.Outcome.{Outcome}
-use Rattle.cp_call.specs.Object.{State, step, opening_state}
+use Rattle.cp_call.specs.Object.{step, opening_state}
 use Rattle.cp_call.specs.History.{Limit, MayFollow, state_after}
 use Rattle.cp_call.specs.Life.{IsRequest, pending_request}
 use Rattle.cp_call.specs.Asker.{IsFull}

@@ -1,5 +1,5 @@
 -- A run as a whole: the shared objects, the engines and the port, and how they belong together.
-use Rattle.std.specs.Prelude.{ℕ, ◌+◌, ◌==◌, nat_le, nat_lt, ◌≡◌, Bool, true, false, ◌&&◌, IsTrue, MatchBool, MatchOption, cond, List, [], ◌∷◌, ◌++◌, length, filter, Option, Some, None, slice_get}
+use Rattle.std.specs.Prelude.{ℕ, ◌+◌, ◌==◌, nat_le, nat_lt, ◌≡◌, Bool, true, false, ◌&&◌, IsTrue, MatchBool, MatchOption, cond, List, [], ◌∷◌, ◌++◌, length, Option, Some, None, slice_get}
 use Rattle.std.specs.List.{list_all, list_any}
 use Rattle.cp_list.specs.Lists.{own}
 use Rattle.cp_term.specs.declared.cell.Cell.{Cell}
