@@ -132,6 +132,15 @@ AreTied-set s preds preds_now port port_now n (suc k) (x ∷ engines) e l t all 
       AreTied-set s preds preds_now port port_now (n + 1) k engines e (subst (LeavesOthers preds preds_now port port_now) z l) (subst (λ m. IsTied s preds_now port_now m e) z t) all.1,
     )
 
+-- The engines of two parts that are numbered on are tied together.
+pub AreTied-append : (s : Setup) (preds : List PredEnd) (port : List OutEntry) (n : ℕ) (xs ys : List EngineEnd)
+    → AreTied s preds port n xs
+    → AreTied s preds port (n + length xs) ys
+    → AreTied s preds port n (xs ++ ys)
+AreTied-append s preds port n [] ys a b = subst (λ m. AreTied s preds port m ys) (let z : n + 0 ≡ n = omega arith in z) b
+AreTied-append s preds port n (x ∷ xs) ys a b =
+    (a.0, AreTied-append s preds port (n + 1) xs ys a.1 (subst (λ m. AreTied s preds port m ys) (sym (shift n (length xs))) b))
+
 length-set : {X : Type 0} (xs : List X) (k : ℕ) (x : X) → length (slice_set xs k x) ≡ length xs
 length-set [] k x = refl
 length-set (y ∷ xs) zero x = refl

@@ -49,6 +49,11 @@ pub fn added_events_agree()
     ensures { (objects : List Object) (seen : ℕ → List Entry) (now : ℕ → List Entry) (wrote : List OutEntry) (wrote_now : List OutEntry) (n : ℕ) (items : List Item) (added : List Item) → Agrees objects seen wrote n items → HasAdded objects seen now wrote wrote_now n added → Agrees objects now wrote_now n (items ++ added) }
 {}
 
+/// What an engine tells of the objects and the port stays so with the events of others.
+pub fn events_of_others_agree()
+    ensures { (objects : List Object) (seen : ℕ → List Entry) (now : ℕ → List Entry) (writes : List OutEntry) (n : ℕ) (items : List Item) → ((q : ℕ) → IsPrefix (seen q) (now q)) → ((q : ℕ) → own_entries n (now q) ≡ own_entries n (seen q)) → Agrees objects seen writes n items → Agrees objects now writes n items }
+{}
+
 /// Workers that have done nothing yet are running.
 pub fn new_workers_run()
     ensures { (rule : Rule) (objects : List Object) (seen : ℕ → ℕ → List Entry) (wrote : ℕ → List OutEntry) (n : ℕ) (count : ℕ) → ((m : ℕ) (p : ℕ) → own_entries m (seen m p) ≡ []) → ((m : ℕ) → wrote m ≡ []) → AreRunning rule objects seen wrote n (replicate count []) }
@@ -63,6 +68,11 @@ pub fn workers_run_on()
 /// the workers behind it, and the port is what was written.
 pub fn ended_workers_are_tied()
     ensures { (s : Setup) (preds : List PredEnd) (port : List OutEntry) (seen : ℕ → ℕ → List Entry) (wrote : ℕ → List OutEntry) (n : ℕ) (lives : List (List Item)) (engines : List EngineEnd) → AreRunning s.rule s.objects seen wrote n lives → AreWorkerEnds n lives engines → ((m : ℕ) (q : ℕ) → IsPrefix (seen m q) (history_at preds q)) → ((m : ℕ) (q : ℕ) → own_entries m (history_at preds q) ≡ own_entries m (seen m q)) → ((m : ℕ) → own_writes m port ≡ wrote m) → AreTied s preds port n engines }
+{}
+
+/// Engines of two parts that are numbered on, as workers and lanes, are tied together.
+pub fn tied_engines_join()
+    ensures { (s : Setup) (preds : List PredEnd) (port : List OutEntry) (n : ℕ) (first : List EngineEnd) (others : List EngineEnd) → AreTied s preds port n first → AreTied s preds port (n + length first) others → AreTied s preds port n (first ++ others) }
 {}
 
 /// A history that an engine's own entries alone have lengthened has engines as its callers, if it had before.

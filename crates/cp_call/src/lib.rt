@@ -17,9 +17,9 @@ pub use call::{Call, Callers, Entries, Entry, FullBy, ObjectKind, ObjectName, Re
 pub use copies::copy_of;
 pub use event_laws::{
     added_events_agree, added_events_join, callers_stay_engines, ended_workers_are_tied,
-    events_keep_going, new_workers_run, one_event_keeps_going, replied_calls_add_an_event,
-    runs_begin_going, silent_events_are_added, unanswered_calls_add_nothing, workers_run_on,
-    writes_add_an_event,
+    events_keep_going, events_of_others_agree, new_workers_run, one_event_keeps_going,
+    replied_calls_add_an_event, runs_begin_going, silent_events_are_added, tied_engines_join,
+    unanswered_calls_add_nothing, workers_run_on, writes_add_an_event,
 };
 pub use item::{
     How, Input, Item, Items, Next, PutReply, RemoteAnswers, RemoteCall, RemoteEnd, RemoteReply,
