@@ -8,3 +8,6 @@ pub mod Parking
 pub mod Lanes
 pub mod Taking
 pub mod Resting
+pub mod Adding
+pub mod Running
+pub mod Going

@@ -7,3 +7,7 @@ pub mod Machine
 pub mod Asker
 pub mod Store
 pub mod Refusals
+pub mod Setup
+pub mod Added
+pub mod Running
+pub mod Progress

@@ -17,9 +17,9 @@ pub struct MemSink {
 }
 
 impl Model for MemSink {
-    ghost use Rattle.cp_io.specs.Memory.{SinkBytes};
+    ghost use Rattle.cp_io.specs.Memory.{SinkView};
 
-    ghost Value = { SinkBytes };
+    ghost Value = { SinkView };
 
     ghost view = { λ s. record { held = s.held.items; faults = s.faults } };
 }

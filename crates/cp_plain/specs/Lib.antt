@@ -1,0 +1,3 @@
+pub mod Tokens
+pub mod Source
+pub mod Program

@@ -1,0 +1,85 @@
+-- The program that a plain file says: the variables of its clause are numbered by first occurrence, and each `_` is a
+-- new one.
+use Rattle.std.specs.Prelude.{◌≡◌, ℕ, suc, cond, pos, List, [], ◌∷◌, ◌++◌, length, Option, Some, None, codes}
+use Rattle.std.specs.Str.{bytes_eq}
+use Rattle.cp_plain.specs.declared.program.Argument.{Argument}
+use Rattle.cp_plain.specs.declared.program.Argument.TheVariants.{Variable, Integer, Atom}
+use Rattle.cp_plain.specs.declared.program.Goal.{Goal}
+use Rattle.cp_plain.specs.declared.program.Goal.TheVariants.{True, Newline, Write, Assert, Retract}
+use Rattle.cp_plain.specs.declared.program.Concurrent.{Concurrent}
+use Rattle.cp_plain.specs.declared.program.PlainProgram.{PlainProgram}
+use Rattle.cp_plain.specs.Tokens.{tokens}
+use Rattle.cp_plain.specs.Source.{SourceArgument, named, number, atom, SourceGoal, succeeds, newline, writes, asserts, retracts, SourcePredicate, Source, source_tokens, IsLawful}
+
+-- the place of a variable's name among those seen, which is their number where it is not among them
+abbrev pub place_of : List (List ℕ) → List ℕ → ℕ
+place_of [] v = 0
+place_of (u ∷ us) v = cond (bytes_eq u v) 0 (suc (place_of us v))
+
+-- the number of a variable after these, and the names seen with it
+abbrev pub number_of : List (List ℕ) → List ℕ → ℕ
+number_of seen v = cond (bytes_eq v (codes "_")) (length seen) (place_of seen v)
+
+abbrev pub with_name : List (List ℕ) → List ℕ → List (List ℕ)
+with_name [] v = v ∷ []
+with_name (u ∷ us) v = cond (bytes_eq u v) (u ∷ us) (u ∷ with_name us v)
+
+abbrev pub seen_with : List (List ℕ) → List ℕ → List (List ℕ)
+seen_with seen v = cond (bytes_eq v (codes "_")) (seen ++ v ∷ []) (with_name seen v)
+
+-- an argument after these variables, and the variables seen after it
+abbrev pub argument_of : List (List ℕ) → SourceArgument → Argument
+argument_of seen (named v) = Variable (number_of seen v)
+argument_of seen (number n) = Integer (pos n)
+argument_of seen (atom a) = Atom a
+
+abbrev pub seen_argument : List (List ℕ) → SourceArgument → List (List ℕ)
+seen_argument seen (named v) = seen_with seen v
+seen_argument seen (number n) = seen
+seen_argument seen (atom a) = seen
+
+-- arguments from left to right
+abbrev pub arguments_of : List (List ℕ) → List SourceArgument → List Argument
+arguments_of seen [] = []
+arguments_of seen (a ∷ more) = argument_of seen a ∷ arguments_of (seen_argument seen a) more
+
+abbrev pub seen_arguments : List (List ℕ) → List SourceArgument → List (List ℕ)
+seen_arguments seen [] = seen
+seen_arguments seen (a ∷ more) = seen_arguments (seen_argument seen a) more
+
+abbrev pub goal_of : List (List ℕ) → SourceGoal → Goal
+goal_of seen succeeds = True
+goal_of seen newline = Newline
+goal_of seen (writes a) = Write (argument_of seen a)
+goal_of seen (asserts name arguments) = Assert (arguments_of seen arguments)
+goal_of seen (retracts name arguments) = Retract (arguments_of seen arguments)
+
+abbrev pub seen_goal : List (List ℕ) → SourceGoal → List (List ℕ)
+seen_goal seen succeeds = seen
+seen_goal seen newline = seen
+seen_goal seen (writes a) = seen_argument seen a
+seen_goal seen (asserts name arguments) = seen_arguments seen arguments
+seen_goal seen (retracts name arguments) = seen_arguments seen arguments
+
+abbrev pub goals_of : List (List ℕ) → List SourceGoal → List Goal
+goals_of seen [] = []
+goals_of seen (g ∷ more) = goal_of seen g ∷ goals_of (seen_goal seen g) more
+
+abbrev pub predicate_of : Option SourcePredicate → Option Concurrent
+predicate_of None = None
+predicate_of (Some p) = Some (record { name = p.name; arity = p.arity })
+
+-- the program of a plain file that says this
+abbrev pub program_of : Source → PlainProgram
+program_of s = record { «module» = s.module_name; concurrent = predicate_of s.declared; goals = goals_of [] s.goals }
+
+-- A text is the plain file of a program: its tokens are those of something lawful, whose program it is.
+pub record IsPlainFile (text : List ℕ) (p : PlainProgram) : Type 0 where
+  pub source : Source
+  pub reads : tokens text ≡ Some (source_tokens source)
+  pub lawful : IsLawful source
+  pub program : p ≡ program_of source
+
+-- the text is no plain file
+abbrev pub IsNoPlainFile : List ℕ → Type 0
+IsNoPlainFile text = (source : Source) → tokens text ≡ Some (source_tokens source) → IsLawful source → ⊥
