@@ -68,7 +68,6 @@ pub fn may_wait(contents: &Contents) -> bool
 
 /// A look that finds nothing, and waits or not.
 pub fn missed(
-    alloc: Global,
     contents: &Contents,
     caller: u32,
     pattern: &Term,
@@ -82,7 +81,7 @@ pub fn missed(
     }
     let row = ParkedRow {
         caller,
-        pattern: pattern.copy(alloc)?,
+        pattern: pattern.copy()?,
         after,
     };
     Ok(Effect {
@@ -92,12 +91,12 @@ pub fn missed(
 }
 
 /// The reply that tells a fact.
-pub fn found(alloc: Global, row: &FactRow) -> Result<Reply, AllocError>
+pub fn found(row: &FactRow) -> Result<Reply, AllocError>
     ensures { IfOk result (λ reply. reply ≡ Reply.Found row.now.place row.now.fact) }
 {
     Ok(Reply::Found {
         place: row.place,
-        fact: row.fact.copy(alloc)?,
+        fact: row.fact.copy()?,
     })
 }
 
@@ -113,8 +112,8 @@ pub fn looks(
     ensures { IfOk result (IsEffect (state_in contents.now) (finds (state_in contents.now) caller pattern.now after waits (first_seen contents.now.facts.items pattern.now after))) }
 {
     match first_seen_at(alloc, contents.facts.as_slice(), pattern, after)? {
-        Some(at) => Ok(only_replies(contents, found(alloc, &contents.facts[at])?)),
-        None => missed(alloc, contents, caller, pattern, after, waits),
+        Some(at) => Ok(only_replies(contents, found(&contents.facts[at])?)),
+        None => missed(contents, caller, pattern, after, waits),
     }
 }
 
@@ -132,10 +131,10 @@ pub fn takes(
 {
     match first_seen_at(alloc, contents.facts.as_slice(), pattern, after)? {
         Some(at) => Ok(Effect {
-            reply: found(alloc, &contents.facts[at])?,
+            reply: found(&contents.facts[at])?,
             change: change_of(contents, FactsChange::Remove(at), ParkedChange::Keep),
         }),
-        None => missed(alloc, contents, caller, pattern, after, waits),
+        None => missed(contents, caller, pattern, after, waits),
     }
 }
 
@@ -166,7 +165,7 @@ pub fn goes_front(alloc: Global, contents: &Contents, fact: &Term) -> Result<Eff
     let place = place_before(contents.lowest)?;
     let row = FactRow {
         place,
-        fact: fact.copy(alloc)?,
+        fact: fact.copy()?,
     };
     let Woken { callers, left } = wakes(alloc, contents.parked.as_slice(), &row)?;
     Ok(Effect {
@@ -191,7 +190,7 @@ pub fn goes_back(alloc: Global, contents: &Contents, fact: &Term) -> Result<Effe
     let place = place_behind(contents.highest)?;
     let row = FactRow {
         place,
-        fact: fact.copy(alloc)?,
+        fact: fact.copy()?,
     };
     let Woken { callers, left } = wakes(alloc, contents.parked.as_slice(), &row)?;
     Ok(Effect {
@@ -216,7 +215,7 @@ pub fn goes_alone(alloc: Global, contents: &Contents, fact: &Term) -> Result<Eff
     let place = place_behind(contents.highest)?;
     let row = FactRow {
         place,
-        fact: fact.copy(alloc)?,
+        fact: fact.copy()?,
     };
     let Woken { callers, left } = wakes(alloc, contents.parked.as_slice(), &row)?;
     let mut rows = Vec::new(alloc);

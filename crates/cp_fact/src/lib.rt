@@ -2,7 +2,6 @@
 #![tactic(auto)]
 
 mod contents;
-mod copies;
 mod effect;
 mod limits;
 mod look;

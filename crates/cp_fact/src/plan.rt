@@ -5,7 +5,6 @@ ghost use Rattle.cp_fact.specs.Effect.{IsPlaced};
 ghost use Rattle.cp_fact.specs.Plan.{IsPlanFor};
 
 use crate::contents::{Change, Contents};
-use crate::copies::{copy_call, copy_reply};
 use crate::effect::{Effect, effect_of};
 use cp_call::{Call, Refused, Reply};
 use std::alloc::{AllocError, Global};
@@ -70,12 +69,13 @@ pub fn plan_of(
     requires { IsPlaced (state_in contents.now) }
     ensures { IfOk result (IsPlanFor (state_in contents.now) caller call.now) }
 {
-    let Effect { reply, change } = effect_of(alloc, contents, caller, call)?;
-    let recorded = copy_reply(alloc, &reply)?;
-    let cells = call_cells(call) as u64 + reply_cells(&reply) as u64;
+    let call = call.clone()?;
+    let Effect { reply, change } = effect_of(alloc, contents, caller, &call)?;
+    let recorded = reply.clone()?;
+    let cells = call_cells(&call) as u64 + reply_cells(&reply) as u64;
     Ok(Plan {
         caller,
-        call: copy_call(alloc, call)?,
+        call,
         recorded,
         reply,
         change,

@@ -54,7 +54,7 @@ pub fn placed(alloc: Global, opening: &Terms) -> Result<Vec<FactRow>, AllocError
     for (i, fact) in opening.as_slice().iter().enumerate() {
         rows.push(FactRow {
             place: i as i64 + 1,
-            fact: fact.copy(alloc)?,
+            fact: fact.copy()?,
         })?;
     }
     Ok(rows)

@@ -16,12 +16,12 @@ pub struct Woken {
     pub left: ReservedList<ParkedRow>,
 }
 
-pub fn copy_row(alloc: Global, row: &ParkedRow) -> Result<ParkedRow, AllocError>
+pub fn copy_row(row: &ParkedRow) -> Result<ParkedRow, AllocError>
     ensures { IfOk result (λ copy. copy ≡ row.now) }
 {
     Ok(ParkedRow {
         caller: row.caller,
-        pattern: row.pattern.copy(alloc)?,
+        pattern: row.pattern.copy()?,
         after: row.after,
     })
 }
@@ -37,7 +37,7 @@ pub fn wakes(alloc: Global, parked: &[ParkedRow], fact: &FactRow) -> Result<Woke
         if sees_fact(alloc, &row.pattern, row.after, fact)? {
             callers.push(row.caller)?;
         } else {
-            left.push(copy_row(alloc, row)?)?;
+            left.push(copy_row(row)?)?;
         }
     }
     Ok(Woken { callers, left })
@@ -65,7 +65,7 @@ pub fn without(
     let mut left = ReservedList::new(alloc);
     for row in parked {
         if row.caller != caller {
-            left.push(copy_row(alloc, row)?)?;
+            left.push(copy_row(row)?)?;
         }
     }
     Ok(left)
