@@ -14,7 +14,7 @@ pub one_ended : (hall : List HallObject) (ends : List PredEnd) (o : HallObject) 
     → EndsWith hall ends (o ∷ rest) → IsKept o.object end → end.history ≡ o.history → EndsWith hall (ends ++ end ∷ []) rest
 one_ended hall ends o rest end w k h more ks hs =
     subst (λ (all : List PredEnd). AreKept (objects_of hall) all × (ended_histories all ≡ histories_of hall)) (sym (append_assoc ends (end ∷ []) more))
-      (w (end ∷ more) (k, ks) (ap (λ (e : List Entry). e ∷ ended_histories more) h ∙ ap (λ hs. o.history ∷ hs) hs))
+    (w (end ∷ more) (k, ks) (ap (λ (e : List Entry). e ∷ ended_histories more) h ∙ ap (λ hs. o.history ∷ hs) hs))
 
 pub all_ended : (hall : List HallObject) (ends : List PredEnd) → EndsWith hall ends [] → AreKept (objects_of hall) ends × (ended_histories ends ≡ histories_of hall)
 all_ended hall ends w = subst (λ (all : List PredEnd). AreKept (objects_of hall) all × (ended_histories all ≡ histories_of hall)) (append-nil ends) (w [] tt refl)

@@ -3,9 +3,11 @@ ghost use Rattle.cp_call.specs.Object.{step, is_parked};
 ghost use Rattle.cp_call.specs.Store.{state_of, is_still_parked, limit_of};
 ghost use Rattle.cp_call.specs.Sound.{Object, IsKept, AreKept};
 ghost use Rattle.cp_call.specs.Asker.{entry_added, IsFullBy, IsStill};
-ghost use Rattle.cp_hall.specs.Hall.{objects_of, histories_of, ended_histories, history_at, with_more, state_now, IsAnswer, IsAnswered, IsRight, hall_object};
+ghost use Rattle.cp_hall.specs.Hall.{objects_of, histories_of, ended_histories, history_at, with_more, state_now, IsAnswer, IsAnswered, IsConsistent, hall_object};
 
-use cp_call::{Asked, Asker, Call, ObjectKind, ObjectName, PredEnd, PredEnds, Refused, Reply, Terms};
+use cp_call::{
+    Asked, Asker, Call, ObjectKind, ObjectName, PredEnd, PredEnds, Refused, Reply, Terms,
+};
 use cp_fact::Pred;
 use std::alloc::{AllocError, Global};
 use std::marker::Model;
@@ -62,7 +64,12 @@ impl PlainHall {
     }
 
     /// Adds an object under the next number. It has the opening facts, is open, and nobody has asked it yet.
-    pub fn add(&mut self, name: ObjectName, kind: ObjectKind, opening: Terms) -> Result<(), AllocError>
+    pub fn add(
+        &mut self,
+        name: ObjectName,
+        kind: ObjectKind,
+        opening: Terms,
+    ) -> Result<(), AllocError>
         ensures ok { OnOk result (self.new ≡ self.old ++ record { object = record { name = name; kind = kind; opening = opening }; history = [] } ∷ []) }
         ensures err { OnErr result (self.new ≡ self.old) }
     {
@@ -75,7 +82,7 @@ impl PlainHall {
     pub fn is_parked(&self, object: u32, caller: u32) -> bool
         requires { object < length self.now }
         ensures parked { IfSome (slice_get self.now object) (λ o. result ≡ is_parked (state_now o) caller) }
-        ensures right { IfSome (slice_get self.now object) IsRight }
+        ensures right { IfSome (slice_get self.now object) IsConsistent }
     {
         self.rows[object as usize].pred.is_parked(caller)
     }
