@@ -11,3 +11,6 @@ mod waking;
 
 pub use cp_call::Refused;
 pub use pred::Pred;
+
+#[cfg(test)]
+mod tests;

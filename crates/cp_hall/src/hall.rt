@@ -80,7 +80,7 @@ impl PlainHall {
 
     /// Whether the caller is parked on the object.
     pub fn is_parked(&self, object: u32, caller: u32) -> bool
-        requires { object < length self.now }
+        requires { object < length (objects_of self.now) }
         ensures parked { IfSome (slice_get self.now object) (λ o. result ≡ is_parked (state_now o) caller) }
         ensures right { IfSome (slice_get self.now object) IsConsistent }
     {
@@ -89,8 +89,9 @@ impl PlainHall {
 
     /// Asks an object on behalf of a caller.
     pub fn ask_object(&mut self, object: u32, caller: u32, call: &Call) -> Asked
-        requires { object < length self.old }
+        requires { object < length (objects_of self.old) }
         ensures hall { self.new ≡ with_more (entry_added caller call.now result) self.old object }
+        ensures objects { objects_of self.new ≡ objects_of self.old }
         ensures answer { IfSome (slice_get self.old object) (IsAnswered caller call.now result) }
         ensures full { IsFullBy (slice_get (objects_of self.old) object) (history_at self.new object) caller call.now result }
         ensures still { IsStill (slice_get (objects_of self.old) object) (history_at self.new object) caller call.now result }
