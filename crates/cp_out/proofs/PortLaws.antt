@@ -1,8 +1,8 @@
 -- One more write on the port, and what the pieces of a port say of what its sink holds.
-use Rattle.std.proofs.Common.{◌≡◌, ℕ, ◌+◌, ◌≤◌, Bool, true, false, ◌||◌, ◌&&◌, Option, Some, None, List, [], ◌∷◌, ◌++◌, length, take, refl, sym, ◌∙◌, ap, subst, append_assoc, arith}
+use Rattle.std.proofs.Common.{◌≡◌, ℕ, ◌+◌, ◌≤◌, Bool, true, false, ◌||◌, ◌&&◌, Option, Some, None, List, [], ◌∷◌, ◌++◌, length, take, drop, refl, sym, ◌∙◌, ap, subst, append_assoc, arith}
 use Rattle.std.specs.Prelude.{cond, IsSomeAnd}
 use Rattle.std.specs.List.{list_any, list_all}
-use Rattle.std.proofs.lemmas.List.{append-nil}
+use Rattle.std.proofs.lemmas.List.{take-append-drop}
 use Rattle.std.proofs.lemmas.Grind.{common_steps}
 use Rattle.cp_io.specs.Cause.{Rose}
 use Rattle.cp_list.specs.Lists.{IsPrefix}
@@ -10,7 +10,7 @@ use Rattle.cp_call.specs.declared.item.PutReply.{PutReply}
 use Rattle.cp_call.specs.declared.item.PutReply.TheVariants.{Wrote, Failed}
 use Rattle.cp_call.specs.declared.outcome.OutEntry.{OutEntry}
 use Rattle.cp_call.specs.Sound.{has_failed, stays_failed}
-use Rattle.cp_out.specs.Port.{any_failed, written, broken_piece, HasGrown, GrewTo, GrewBy, IsCaused, Records, is_failure}
+use Rattle.cp_out.specs.Port.{any_failed, pieces, written, broken_piece, HasGrown, GrewTo, GrewBy, IsCaused, Records, is_failure}
 
 -- while none has failed, the pieces that were written are those of all writes
 pub written-after_whole : (port more : List OutEntry) → any_failed port ≡ false → written (port ++ more) ≡ written port ++ written more
@@ -158,3 +158,36 @@ failed-more port w true flag fails =
     let e : is_failure w.reply ≡ true = rw (fails refl) refl in
     e ∙ sym (any_failed-more port w ∙ rw (← flag) refl)
 failed-more port w false flag fails = sym (any_failed-last port w (sym flag))
+
+-- while none has failed, all pieces were written
+pub written-all : (port : List OutEntry) → any_failed port ≡ false → written port ≡ pieces port
+written-all [] h = refl
+written-all (w ∷ port) h =
+    elim (has_failed w) as (λ b. (b || any_failed port) ≡ false → cond b [] (w.bytes ++ written port) ≡ w.bytes ++ pieces port)
+    [ true ↦ λ e. absurd cc | false ↦ λ e. ap (λ rest. w.bytes ++ rest) (written-all port e) ] h
+
+-- a sink has grown by all pieces where none has failed
+pub grown-all : (first : List ℕ) (port : List OutEntry) (now : List ℕ) → any_failed port ≡ false → HasGrown first port now → now ≡ first ++ pieces port
+grown-all first port now h g = held-whole first port now h g ∙ ap (λ more. first ++ more) (written-all port h)
+
+-- what was written is the beginning of all pieces
+pub written-prefix : (port : List OutEntry) (n : ℕ) → IsPrefix (written port ++ take n (broken_piece port)) (pieces port)
+written-prefix [] n = ([], grind (arith, common_steps))
+written-prefix (w ∷ port) n =
+    elim (has_failed w) as (λ b. IsPrefix (cond b [] (w.bytes ++ written port) ++ take n (cond b w.bytes (broken_piece port))) (w.bytes ++ pieces port))
+    [ true ↦ (drop n w.bytes ++ pieces port, ap (λ piece. piece ++ pieces port) (sym (take-append-drop n w.bytes)) ∙ append_assoc (take n w.bytes) (drop n w.bytes) (pieces port))
+    | false ↦ let more = written-prefix port n in (more.0, rw more.1 (grind (arith, common_steps))) ]
+
+-- and so a sink has grown by a beginning of them
+pub grown-prefix : (first : List ℕ) (port : List OutEntry) (now : List ℕ) → HasGrown first port now → IsPrefix now (first ++ pieces port)
+grown-prefix first port now g =
+    let more = written-prefix port g.part in
+    (more.0, rw (more.1, g.grown) (grind (arith, common_steps)))
+
+none-failed-by : (failed : Bool) (before now : ℕ) → (failed ≡ true → Rose before now) → now ≡ 0 → failed ≡ false
+none-failed-by true before now rose h = let r = rose refl in absurd (omega arith)
+none-failed-by false before now rose h = refl
+
+-- none has failed while the count of the sink is 0
+pub none-failed : {S : Type 0} (held : S → Option (List ℕ)) (faults : S → ℕ) (first : S) (port : List OutEntry) (sink : S) → Records held faults first port sink → faults sink ≡ 0 → any_failed port ≡ false
+none-failed held faults first port sink r h = none-failed-by (any_failed port) (faults first) (faults sink) r.caused h
