@@ -9,8 +9,15 @@ use Rattle.cp_io.specs.Memory.{DialerView, Puts}
 -- a dialer with the same connections to come, the room that this one was made with, and the same calls that are to fail
 abbrev pub parted : DialerView → DialerView
 parted d = record {
-  arriving = []; sent = []; coming = d.coming; dialled = []; room = d.size; address_room = d.size; size = d.size;
-  calls = record { fails = d.calls.fails; made = 0 }; faults = 0
+  arriving = [];
+  sent = [];
+  coming = d.coming;
+  dialled = [];
+  room = d.size;
+  address_room = d.size;
+  size = d.size;
+  calls = record { fails = d.calls.fails; made = 0 };
+  faults = 0;
 }
 
 -- A send puts the piece behind what was sent, and changes nothing else.
@@ -24,6 +31,9 @@ pub record Sends {E : Type 0} (old : DialerView) (piece : List ℕ) (result : Re
 pub record HasDialled (old : DialerView) (address : List ℕ) (new : DialerView) : Type 0 where
   pub room : new.address_room + room_of address ≡ old.address_room
   pub others : new ≡ record old {
-    arriving = first_of old.coming; coming = drop 1 old.coming; dialled = old.dialled ++ address ∷ [];
-    address_room = new.address_room; calls = counted old.calls
+    arriving = first_of old.coming;
+    coming = drop 1 old.coming;
+    dialled = old.dialled ++ address ∷ [];
+    address_room = new.address_room;
+    calls = counted old.calls;
   }
