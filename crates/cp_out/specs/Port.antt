@@ -80,5 +80,5 @@ goes_on-here p = record { first = refl; entries = ([], sym (append-nil p.entries
 pub goes_on-on : {S : Type 0} (p q r : PortView S) → GoesOn p q → GoesOn q r → GoesOn p r
 goes_on-on p q r a b = record {
   first = b.first ∙ a.first;
-  entries = (a.entries.0 ++ b.entries.0, b.entries.1 ∙ ap (λ es. es ++ b.entries.0) a.entries.1 ∙ append_assoc p.entries a.entries.0 b.entries.0)
+  entries = (a.entries.0 ++ b.entries.0, b.entries.1 ∙ ap (λ es. es ++ b.entries.0) a.entries.1 ∙ append_assoc p.entries a.entries.0 b.entries.0);
 }
