@@ -29,6 +29,7 @@ fn a_sink_that_failed_is_not_called_again(rt: HostRuntime) -> Result<(), Failure
     assert!(rt; matches!(port.put(1, &piece)?, PutReply::Wrote));
     assert!(rt; matches!(port.put(1, &piece)?, PutReply::Failed));
     assert!(rt; matches!(port.put(1, &piece)?, PutReply::Failed));
+    assert!(rt; port.has_failed());
     let (sink, entries) = port.into_parts();
     assert_eq!(rt; sink.held(), b"1".as_slice());
     assert_eq!(rt; entries.len(), 3);
