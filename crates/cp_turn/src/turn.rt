@@ -10,9 +10,8 @@ use crate::rule::{Draw, Look, Park, Serve, Turns, TurnstileKey};
 use crate::view::SeatView;
 use atomic_table::Table;
 use std::alloc::Global;
-use std::hint;
 use std::sync::Wait;
-use std::thread;
+use std::{hint, thread};
 
 pub(crate) type TableOf<T> = Table<
     Option<T>,
@@ -24,6 +23,7 @@ pub(crate) type TableOf<T> = Table<
 
 // How often a waiting caller looks before it parks: first in a row, and then leaving its processor to others.
 const SPINS: u32 = 100;
+
 const YIELDS: u32 = 4;
 
 // Draws the next ticket.
