@@ -1,5 +1,5 @@
 // The steps of one turn: a ticket is drawn, its turn is waited for, and the next ticket is served.
-ghost use Rattle.std.specs.Prelude.{◌≡◌, ◌≢◌, ℕ, ◌+◌, ◌%◌, ◌<◌, ◌≤◌, ◌^◌, List, [], ◌∷◌, Some, None, MatchOption};
+ghost use Rattle.std.specs.Prelude.{◌≡◌, ◌≢◌, ℕ, ◌+◌, ◌-◌, ◌%◌, ◌<◌, ◌≤◌, ◌^◌, List, [], ◌∷◌, Some, None, MatchOption};
 ghost use Rattle.cp_turn.specs.declared.view.Stage.TheVariants.{Waiting, Entered};
 ghost use Rattle.cp_turn.specs.Turns.{pass_view, at_stage, outside};
 ghost use Rattle.cp_turn.specs.Passes.{IsIdle, HasTicket, Lengthens, IsTaken};
@@ -74,7 +74,8 @@ fn spin<T: Ledgered>(table: &TableOf<T>, seat: &mut SeatOf<T>, ticket: u64) -> O
 // the callers, so that each leads to a word of its own.
 fn parking_word<T: Ledgered>(table: &TableOf<T>, ticket: u64) -> usize
     requires { 2 < table.now.shared.table_id.words }
-    ensures { (2 ≤ result) × (result < table.now.shared.table_id.words) }
+    ensures word { result ≡ 2 + ticket % (table.now.shared.table_id.words - 2) }
+    ensures within { (2 ≤ result) × (result < table.now.shared.table_id.words) }
 {
     let callers = table.word_count() - 2;
     2 + (ticket % callers as u64) as usize
