@@ -1,6 +1,8 @@
 -- The program that a plain file says: the variables of its clause are numbered by first occurrence, and each `_` is a
 -- new one.
-use Rattle.std.specs.Prelude.{◌≡◌, ℕ, suc, cond, pos, List, [], ◌∷◌, ◌++◌, length, Option, Some, None, codes}
+use Rattle.std.specs.Prelude.{◌≡◌, ℕ, suc, ◌<◌, ◌≤◌, Bool, true, false, not, ◌&&◌, cond, ℤ, pos, negsuc, List, [], ◌∷◌, ◌++◌, length, All, Option, Some, None, codes}
+use Rattle.std.specs.List.{list_all}
+use Rattle.std.specs.Char.{is_ascii_lowercase}
 use Rattle.std.specs.Str.{bytes_eq}
 use Rattle.cp_plain.specs.declared.program.Argument.{Argument}
 use Rattle.cp_plain.specs.declared.program.Argument.TheVariants.{Variable, Integer, Atom}
@@ -8,8 +10,8 @@ use Rattle.cp_plain.specs.declared.program.Goal.{Goal}
 use Rattle.cp_plain.specs.declared.program.Goal.TheVariants.{True, Newline, Write, Assert, Retract}
 use Rattle.cp_plain.specs.declared.program.Concurrent.{Concurrent}
 use Rattle.cp_plain.specs.declared.program.PlainProgram.{PlainProgram}
-use Rattle.cp_plain.specs.Tokens.{tokens}
-use Rattle.cp_plain.specs.Source.{SourceArgument, named, number, atom, SourceGoal, succeeds, newline, writes, asserts, retracts, SourcePredicate, Source, source_tokens, IsLawful}
+use Rattle.cp_plain.specs.Tokens.{tokens, is_alphanumeric}
+use Rattle.cp_plain.specs.Source.{SourceArgument, named, number, atom, SourceGoal, succeeds, newline, writes, asserts, retracts, Source, source_tokens, is_operator, is_lawful_predicate, IsLawful}
 
 -- the place of a variable's name among those seen, which is their number where it is not among them
 abbrev pub place_of : List (List ℕ) → List ℕ → ℕ
@@ -65,21 +67,59 @@ abbrev pub goals_of : List (List ℕ) → List SourceGoal → List Goal
 goals_of seen [] = []
 goals_of seen (g ∷ more) = goal_of seen g ∷ goals_of (seen_goal seen g) more
 
-abbrev pub predicate_of : Option SourcePredicate → Option Concurrent
-predicate_of None = None
-predicate_of (Some p) = Some (record { name = p.name; arity = p.arity })
-
 -- the program of a plain file that says this
 abbrev pub program_of : Source → PlainProgram
-program_of s = record { «module» = s.module_name; concurrent = predicate_of s.declared; goals = goals_of [] s.goals }
+program_of s = record { «module» = s.module_name; concurrent = s.declared; goals = goals_of [] s.goals }
 
 -- A text is the plain file of a program: its tokens are those of something lawful, whose program it is.
 pub record IsPlainFile (text : List ℕ) (p : PlainProgram) : Type 0 where
   pub source : Source
-  pub reads : tokens text ≡ Some (source_tokens source)
+  pub reads : tokens text ≡ source_tokens source
   pub lawful : IsLawful source
   pub program : p ≡ program_of source
 
 -- the text is no plain file
 abbrev pub IsNoPlainFile : List ℕ → Type 0
-IsNoPlainFile text = (source : Source) → tokens text ≡ Some (source_tokens source) → IsLawful source → ⊥
+IsNoPlainFile text = (source : Source) → tokens text ≡ source_tokens source → IsLawful source → ⊥
+
+-- a small letter, followed by letters, digits and `_`, 1,024 bytes at most
+abbrev pub begins_small : List ℕ → Bool
+begins_small [] = false
+begins_small (c ∷ text) = is_ascii_lowercase c && list_all is_alphanumeric text
+
+pub record IsSmallLetterName (name : List ℕ) : Type 0 where
+  pub spelled : begins_small name ≡ true
+  pub short : length name ≤ 1024
+
+-- a number that is not negative, a variable of the clause, or a small-letter name that is no operator
+abbrev pub IsWellFormedArgument : Argument → Type 0
+IsWellFormedArgument (Variable v) = v < 4096
+IsWellFormedArgument (Integer (pos n)) = Unit {0}
+IsWellFormedArgument (Integer (negsuc n)) = ⊥
+IsWellFormedArgument (Atom a) = IsSmallLetterName a × (is_operator a ≡ false)
+
+-- a fact of the predicate that is declared
+abbrev pub IsWellFormedFact : Option Concurrent → List Argument → Type 0
+IsWellFormedFact None arguments = ⊥
+IsWellFormedFact (Some p) arguments = (length arguments ≡ p.arity) × All IsWellFormedArgument arguments
+
+abbrev pub IsWellFormedGoal : Option Concurrent → Goal → Type 0
+IsWellFormedGoal declared True = Unit {0}
+IsWellFormedGoal declared Newline = Unit {0}
+IsWellFormedGoal declared (Write a) = IsWellFormedArgument a
+IsWellFormedGoal declared (Assert arguments) = IsWellFormedFact declared arguments
+IsWellFormedGoal declared (Retract arguments) = IsWellFormedFact declared arguments
+
+-- a small-letter name that is no operator, 1 to 9 arguments, and no builtin
+abbrev pub IsWellFormedConcurrent : Option Concurrent → Type 0
+IsWellFormedConcurrent None = Unit {0}
+IsWellFormedConcurrent (Some p) = IsSmallLetterName p.name × (1 ≤ p.arity) × (p.arity ≤ 9) × (is_lawful_predicate p ≡ true)
+
+-- what holds of each program that is read
+pub record IsWellFormed (p : PlainProgram) : Type 0 where
+  pub module_name : IsSmallLetterName p.«module»
+  pub module_is_no_operator : is_operator p.«module» ≡ false
+  pub concurrent : IsWellFormedConcurrent p.concurrent
+  pub some_goal : 0 < length p.goals
+  pub few_goals : length p.goals ≤ 4096
+  pub goals : All (IsWellFormedGoal p.concurrent) p.goals

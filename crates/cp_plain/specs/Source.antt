@@ -3,6 +3,7 @@ use Rattle.std.specs.Prelude.{◌≡◌, ℕ, ◌+◌, ◌-◌, Bool, true, fals
 use Rattle.std.specs.List.{list_all, list_any}
 use Rattle.std.specs.Str.{bytes_eq}
 use Prim.Native.String.{String}
+use Rattle.cp_plain.specs.declared.program.Concurrent.{Concurrent}
 use Rattle.cp_plain.specs.Tokens.{Token, word, functor, variable, integer, neck, slash, comma, close, open_list, close_list, full_stop}
 
 -- an argument as it is written
@@ -19,15 +20,10 @@ pub data SourceGoal : Type 0 where
   asserts : List ℕ → List SourceArgument → SourceGoal
   retracts : List ℕ → List SourceArgument → SourceGoal
 
--- the concurrent predicate that is declared
-pub record SourcePredicate : Type 0 where
-  pub name : List ℕ
-  pub arity : ℕ
-
 -- `:- module(M, [main/0]).`, `:- concurrent P/N.` or no declaration, and `main :- G, ..`
 pub record Source : Type 0 where
   pub module_name : List ℕ
-  pub declared : Option SourcePredicate
+  pub declared : Option Concurrent
   pub goals : List SourceGoal
 
 abbrev pub argument_token : SourceArgument → Token
@@ -61,7 +57,7 @@ abbrev pub header_tokens : List ℕ → List Token
 header_tokens name =
     neck ∷ functor (codes "module") ∷ word name ∷ comma ∷ open_list ∷ word (codes "main") ∷ slash ∷ integer 0 ∷ close_list ∷ close ∷ full_stop ∷ []
 
-abbrev pub declaration_tokens : Option SourcePredicate → List Token
+abbrev pub declaration_tokens : Option Concurrent → List Token
 declaration_tokens None = []
 declaration_tokens (Some p) = neck ∷ word (codes "concurrent") ∷ word (p.name) ∷ slash ∷ integer (p.arity) ∷ full_stop ∷ []
 
@@ -101,21 +97,21 @@ is_lawful_argument (number n) = true
 is_lawful_argument (atom a) = not (is_operator a)
 
 -- the fact is one of the declared predicate
-abbrev pub is_lawful_fact : Option SourcePredicate → List ℕ → List SourceArgument → Bool
+abbrev pub is_lawful_fact : Option Concurrent → List ℕ → List SourceArgument → Bool
 is_lawful_fact None name arguments = false
 is_lawful_fact (Some p) name arguments = bytes_eq name p.name && length arguments == p.arity && list_all is_lawful_argument arguments
 
-abbrev pub is_lawful_goal : Option SourcePredicate → SourceGoal → Bool
+abbrev pub is_lawful_goal : Option Concurrent → SourceGoal → Bool
 is_lawful_goal declared succeeds = true
 is_lawful_goal declared newline = true
 is_lawful_goal declared (writes a) = is_lawful_argument a
 is_lawful_goal declared (asserts name arguments) = is_lawful_fact declared name arguments
 is_lawful_goal declared (retracts name arguments) = is_lawful_fact declared name arguments
 
-abbrev pub is_lawful_predicate : SourcePredicate → Bool
+abbrev pub is_lawful_predicate : Concurrent → Bool
 is_lawful_predicate p = not (is_operator p.name) && nat_le 1 p.arity && nat_le p.arity 9 && not (is_builtin p.name p.arity)
 
-abbrev pub is_lawful_declaration : Option SourcePredicate → Bool
+abbrev pub is_lawful_declaration : Option Concurrent → Bool
 is_lawful_declaration None = true
 is_lawful_declaration (Some p) = is_lawful_predicate p
 

@@ -2,5 +2,7 @@
 #![tactic(auto)]
 
 mod program;
+mod reader;
 
 pub use program::{Argument, Arguments, Concurrent, Goal, Goals, PlainProgram};
+pub use reader::read_plain;
