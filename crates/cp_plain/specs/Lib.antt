@@ -1,3 +1,4 @@
 pub mod Tokens
 pub mod Source
 pub mod Program
+pub mod Lexing

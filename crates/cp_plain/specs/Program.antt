@@ -1,8 +1,6 @@
 -- The program that a plain file says: the variables of its clause are numbered by first occurrence, and each `_` is a
 -- new one.
 use Rattle.std.specs.Prelude.{◌≡◌, ℕ, suc, ◌<◌, ◌≤◌, Bool, true, false, not, ◌&&◌, cond, ℤ, pos, negsuc, List, [], ◌∷◌, ◌++◌, length, All, Option, Some, None, codes}
-use Rattle.std.specs.List.{list_all}
-use Rattle.std.specs.Char.{is_ascii_lowercase}
 use Rattle.std.specs.Str.{bytes_eq}
 use Rattle.cp_plain.specs.declared.program.Argument.{Argument}
 use Rattle.cp_plain.specs.declared.program.Argument.TheVariants.{Variable, Integer, Atom}
@@ -10,7 +8,7 @@ use Rattle.cp_plain.specs.declared.program.Goal.{Goal}
 use Rattle.cp_plain.specs.declared.program.Goal.TheVariants.{True, Newline, Write, Assert, Retract}
 use Rattle.cp_plain.specs.declared.program.Concurrent.{Concurrent}
 use Rattle.cp_plain.specs.declared.program.PlainProgram.{PlainProgram}
-use Rattle.cp_plain.specs.Tokens.{tokens, is_alphanumeric}
+use Rattle.cp_plain.specs.Tokens.{tokens, IsSmallLetterName}
 use Rattle.cp_plain.specs.Source.{SourceArgument, named, number, atom, SourceGoal, succeeds, newline, writes, asserts, retracts, Source, source_tokens, is_operator, is_lawful_predicate, IsLawful}
 
 -- the place of a variable's name among those seen, which is their number where it is not among them
@@ -81,15 +79,6 @@ pub record IsPlainFile (text : List ℕ) (p : PlainProgram) : Type 0 where
 -- the text is no plain file
 abbrev pub IsNoPlainFile : List ℕ → Type 0
 IsNoPlainFile text = (source : Source) → tokens text ≡ source_tokens source → IsLawful source → ⊥
-
--- a small letter, followed by letters, digits and `_`, 1,024 bytes at most
-abbrev pub begins_small : List ℕ → Bool
-begins_small [] = false
-begins_small (c ∷ text) = is_ascii_lowercase c && list_all is_alphanumeric text
-
-pub record IsSmallLetterName (name : List ℕ) : Type 0 where
-  pub spelled : begins_small name ≡ true
-  pub short : length name ≤ 1024
 
 -- a number that is not negative, a variable of the clause, or a small-letter name that is no operator
 abbrev pub IsWellFormedArgument : Argument → Type 0

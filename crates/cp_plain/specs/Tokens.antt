@@ -1,7 +1,7 @@
 -- The tokens of a plain file (ISO/IEC 13211-1, 6.4, as far as a plain file uses it). Each is the longest that can stand
 -- at its place. Between tokens stand spaces and newlines.
-use Rattle.std.specs.Prelude.{ℕ, zero, suc, Bool, true, false, ◌||◌, ◌&&◌, ◌==◌, nat_lt, cond, ◌^◌, List, [], ◌∷◌, length, take, drop, Option, Some, None, codes}
-use Rattle.std.specs.List.{list_any, prefix_len}
+use Rattle.std.specs.Prelude.{◌≡◌, ℕ, zero, suc, Bool, true, false, ◌||◌, ◌&&◌, ◌==◌, ◌<◌, ◌≤◌, nat_lt, cond, ◌^◌, List, [], ◌∷◌, length, take, drop, Option, Some, None, codes}
+use Rattle.std.specs.List.{list_any, list_all, prefix_len}
 use Rattle.std.specs.Char.{is_ascii_digit, is_ascii_lowercase, is_ascii_uppercase, is_ascii_alphanumeric}
 use Rattle.std.specs.Str.{bytes_eq}
 use Rattle.std.specs.Str.Parse.{digits_value}
@@ -88,6 +88,10 @@ punctuation_token c rest =
     (cond (c == 93) (close_list, rest)
     no_token)))
 
+-- a capital letter or `_`
+abbrev pub begins_variable : ℕ → Bool
+begins_variable c = is_ascii_uppercase c || c == 95
+
 -- the byte and those behind it that pass the test
 abbrev pub run_of : (ℕ → Bool) → ℕ → List ℕ → List ℕ
 run_of test c text = c ∷ take (prefix_len test text) text
@@ -100,7 +104,7 @@ rest_of test text = drop (prefix_len test text) text
 abbrev pub token_at : ℕ → List ℕ → TokenAndRest
 token_at c text =
     cond (is_ascii_lowercase c) (name_token (run_of is_alphanumeric c text) (rest_of is_alphanumeric text))
-    (cond (is_ascii_uppercase c || c == 95) (variable (run_of is_alphanumeric c text), rest_of is_alphanumeric text)
+    (cond (begins_variable c) (variable (run_of is_alphanumeric c text), rest_of is_alphanumeric text)
     (cond (is_ascii_digit c) (integer_token (run_of is_ascii_digit c text) (rest_of is_ascii_digit text))
     (cond (is_symbol c) (symbol_token (run_of is_symbol c text) (rest_of is_symbol text))
     (punctuation_token c text))))
@@ -118,3 +122,28 @@ tokens_within (suc n) text = elim (first_token (after_layout text)) [ None ↦ [
 -- The tokens of a text. Each takes a byte at least, so that there are no more of them than bytes.
 unfoldable pub tokens : List ℕ → List Token
 tokens text = tokens_within (suc (length text)) text
+
+-- a small letter, followed by letters, digits and `_`
+abbrev pub begins_small : List ℕ → Bool
+begins_small [] = false
+begins_small (c ∷ text) = is_ascii_lowercase c && list_all is_alphanumeric text
+
+-- a small-letter name of 1,024 bytes at most
+pub record IsSmallLetterName (name : List ℕ) : Type 0 where
+  pub spelled : begins_small name ≡ true
+  pub short : length name ≤ 1024
+
+-- what holds of each token that a text has
+abbrev pub IsToken : Token → Type 0
+IsToken (word name) = IsSmallLetterName name
+IsToken (functor name) = IsSmallLetterName name
+IsToken (integer n) = n < 2 ^ 63
+IsToken (variable name) = Unit {0}
+IsToken neck = Unit {0}
+IsToken slash = Unit {0}
+IsToken comma = Unit {0}
+IsToken close = Unit {0}
+IsToken open_list = Unit {0}
+IsToken close_list = Unit {0}
+IsToken full_stop = Unit {0}
+IsToken unknown = Unit {0}
