@@ -4,7 +4,7 @@ use Rattle.std.specs.Prelude.{Some, pos, codes}
 use Rattle.cp_plain.specs.declared.program.Argument.TheVariants.{Variable, Integer}
 use Rattle.cp_plain.specs.declared.program.Goal.TheVariants.{Newline, Write, Assert, Retract}
 use Rattle.cp_plain.specs.Tokens.{word, functor, integer, unknown, tokens}
-use Rattle.cp_plain.specs.Source.{Source, named, number, asserts, retracts, writes, newline}
+use Rattle.cp_plain.specs.Source.{is_operator, is_builtin, builtins_of, Source, named, number, asserts, retracts, writes, newline}
 use Rattle.cp_plain.specs.Program.{IsPlainFile}
 
 abbrev first_text : List ℕ
@@ -23,7 +23,7 @@ first_is_plain : IsPlainFile first_text (record {
   concurrent = Some (record { name = codes "q"; arity = 1 });
   goals = Assert (Integer (pos 1) ∷ []) ∷ Retract (Variable 0 ∷ []) ∷ Write (Variable 0) ∷ Newline ∷ [];
 })
-unfolding tokens
+unfolding tokens is_operator is_builtin builtins_of
 first_is_plain = record {
   source = first_source;
   reads = refl;

@@ -1,1 +1,9 @@
 pub mod LexerLaws
+pub mod VariableLaws
+pub mod CommaLaws
+pub mod NameLaws
+pub mod GoalLaws
+pub mod LoopLaws
+pub mod GoalLoopLaws
+pub mod FileLaws
+pub mod WellFormedLaws

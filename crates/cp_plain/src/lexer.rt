@@ -1,4 +1,4 @@
-ghost use Rattle.std.specs.Prelude.{◌≡◌, ℕ, ◌<◌, ◌≤◌, ◌^◌, true, [], ◌∷◌, length, drop, MatchOption, IfSome};
+ghost use Rattle.std.specs.Prelude.{◌≡◌, ℕ, ◌<◌, ◌≤◌, ◌^◌, true, false, [], ◌∷◌, length, drop, MatchOption, IfSome};
 ghost use Rattle.std.specs.List.{prefix_len, list_all};
 ghost use Rattle.std.specs.Char.{is_ascii_digit};
 ghost use Rattle.std.specs.Str.Parse.{digits_value};
@@ -160,6 +160,7 @@ fn first_token(text: &[u8]) -> Option<(Token<'_>, &[u8])>
 }
 
 /// Reads the tokens of a text. Contracts see the tokens that are left.
+#[derive(Drop)]
 pub(crate) struct Lexer<'a> {
     rest: &'a [u8],
 }
@@ -174,6 +175,9 @@ impl<'a> Model for Lexer<'a> {
 }
 
 impl<'a> Lexer<'a> {
+    ghost use Rattle.std.specs.Prelude.{List, ◌++◌, map, MatchBool};
+    ghost use Rattle.cp_plain.specs.Tokens.{Token as Tokened};
+
     pub(crate) fn new(text: &'a [u8]) -> Self
         ensures { result ≡ tokens text.now }
     {
@@ -188,5 +192,30 @@ impl<'a> Lexer<'a> {
         let (token, rest) = first_token(after_layout(self.rest))?;
         self.rest = rest;
         Some(token)
+    }
+
+    /// Whether the next token is this one, which only then is read.
+    pub(crate) fn takes(&mut self, wanted: Token<'_>) -> bool
+        ensures token { MatchBool result (self.old ≡ token_of wanted.entry ∷ self.new) ((ts : List Tokened) → self.old ≡ token_of wanted.entry ∷ ts → ⊥) }
+        ensures unchanged { result ≡ false → self.new ≡ self.old }
+    {
+        let rest = self.rest;
+        if self.next() == Some(wanted) {
+            return true;
+        }
+        self.rest = rest;
+        false
+    }
+
+    /// Whether the next tokens are these, of which as many are read as stand there.
+    pub(crate) fn takes_all(&mut self, wanted: &[Token<'_>]) -> bool
+        ensures { MatchBool result (self.old ≡ map token_of wanted.now ++ self.new) ((ts : List Tokened) → self.old ≡ map token_of wanted.now ++ ts → ⊥) }
+    {
+        for token in wanted {
+            if !self.takes(*token) {
+                return false;
+            }
+        }
+        true
     }
 }
