@@ -7,3 +7,4 @@ pub mod LoopLaws
 pub mod GoalLoopLaws
 pub mod FileLaws
 pub mod WellFormedLaws
+pub mod FactLaws

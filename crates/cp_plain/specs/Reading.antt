@@ -22,10 +22,6 @@ pub record ReadsArgument (old new : List Token) (seen after : Seen) (argument : 
 abbrev pub NoArgument : List Token → Type 0
 NoArgument old = (said : SourceArgument) (ts : List Token) → is_lawful_argument said ≡ true → old ≡ argument_token said ∷ ts → ⊥
 
--- an argument and the parenthesis behind it
-abbrev pub NoLastArgument : List Token → Type 0
-NoLastArgument old = (said : SourceArgument) (ts : List Token) → is_lawful_argument said ≡ true → old ≡ argument_token said ∷ close ∷ ts → ⊥
-
 -- so many arguments and the parenthesis behind them
 pub record ReadsArguments (arity : ℕ) (old new : List Token) (seen after : Seen) (arguments : List Argument) : Type 0 where
   pub said : List SourceArgument

@@ -1,7 +1,8 @@
-ghost use Rattle.std.specs.Prelude.{◌≡◌, ◌<◌, ◌^◌, ◌∷◌, true, IfOk, IfSome, OnOk, MatchOption};
-ghost use Rattle.cp_plain.specs.Reading.{ReadsArgument, NoArgument, ReadsArguments, NoArguments, ReadsFact, NoFact, ReadsGoal, NoGoal, ReadsClause, NoClause, ReadsGoals, NoGoals, NoLastArgument, cells_of};
+ghost use Rattle.std.specs.Prelude.{◌≡◌, ◌<◌, ◌^◌, ◌∷◌, true, Option, codes, IfOk, IfSome, OnOk, MatchOption};
+ghost use Rattle.cp_plain.specs.Reading.{ReadsArgument, NoArgument, ReadsArguments, NoArguments, ReadsFact, NoFact, ReadsGoal, NoGoal, ReadsClause, NoClause, ReadsGoals, NoGoals, cells_of};
 ghost use Rattle.cp_plain.specs.Source.{is_lawful_declaration};
-ghost use Rattle.cp_plain.specs.Tokens.{close};
+ghost use Rattle.cp_plain.specs.declared.program.Concurrent.{Concurrent};
+ghost use Rattle.cp_plain.specs.Tokens.{functor};
 
 use crate::lexer::Lexer;
 use crate::names::{is_operator, name_of};
@@ -50,10 +51,13 @@ fn read_goals<'a>(
             return Ok(None);
         }
         goals.push(goal)?;
-        match lexer.next() {
-            Some(Token::Comma) => {}
-            Some(Token::FullStop) => return Ok(Some(goals)),
-            _ => return Ok(None),
+        let ends = lexer.takes(Token::FullStop);
+        if ends {
+            return Ok(Some(goals));
+        }
+        let goes_on = lexer.takes(Token::Comma);
+        if !goes_on {
+            return Ok(None);
         }
     }
 }
@@ -92,11 +96,11 @@ fn read_goal<'a>(
         }
         Some(Token::Functor(name)) => {
             if name == b"write".as_slice() {
-                Ok(read_write(alloc, lexer, variables)?.map(Goal::Write))
+                read_write(alloc, lexer, variables)
             } else if name == b"assertz_fact".as_slice() {
-                Ok(read_fact(alloc, lexer, declared, variables)?.map(Goal::Assert))
+                read_assert(alloc, lexer, declared, variables)
             } else if name == b"retract_fact".as_slice() {
-                Ok(read_fact(alloc, lexer, declared, variables)?.map(Goal::Retract))
+                read_retract(alloc, lexer, declared, variables)
             } else {
                 Ok(None)
             }
@@ -105,22 +109,54 @@ fn read_goal<'a>(
     }
 }
 
-/// Reads the argument of `write` and the parenthesis behind it.
+/// Reads what stands behind `write(`.
 fn read_write<'a>(
     alloc: Global,
     lexer: &mut Lexer<'a>,
     variables: &mut Variables<'a>,
-) -> Result<Option<Argument>, AllocError>
-    ensures { IfOk result (λ r. MatchOption r (NoLastArgument lexer.old) (ReadsArgument lexer.old (close ∷ lexer.new) variables.old variables.new)) }
+) -> Result<Option<Goal>, AllocError>
+    ensures { (declared : Option Concurrent) → IfOk result (λ r. MatchOption r (NoGoal declared (functor (codes "write") ∷ lexer.old)) (ReadsGoal declared (functor (codes "write") ∷ lexer.old) lexer.new variables.old variables.new)) }
 {
     let Some(argument) = read_argument(alloc, lexer, variables)? else {
         return Ok(None);
     };
     if lexer.takes(Token::Close) {
-        Ok(Some(argument))
+        Ok(Some(Goal::Write(argument)))
     } else {
         Ok(None)
     }
+}
+
+/// Reads what stands behind `assertz_fact(`.
+fn read_assert<'a>(
+    alloc: Global,
+    lexer: &mut Lexer<'a>,
+    declared: &Option<Concurrent>,
+    variables: &mut Variables<'a>,
+) -> Result<Option<Goal>, AllocError>
+    requires { is_lawful_declaration declared.now ≡ true }
+    ensures { IfOk result (λ r. MatchOption r (NoGoal declared.now (functor (codes "assertz_fact") ∷ lexer.old)) (ReadsGoal declared.now (functor (codes "assertz_fact") ∷ lexer.old) lexer.new variables.old variables.new)) }
+{
+    let Some(arguments) = read_fact(alloc, lexer, declared, variables)? else {
+        return Ok(None);
+    };
+    Ok(Some(Goal::Assert(arguments)))
+}
+
+/// Reads what stands behind `retract_fact(`.
+fn read_retract<'a>(
+    alloc: Global,
+    lexer: &mut Lexer<'a>,
+    declared: &Option<Concurrent>,
+    variables: &mut Variables<'a>,
+) -> Result<Option<Goal>, AllocError>
+    requires { is_lawful_declaration declared.now ≡ true }
+    ensures { IfOk result (λ r. MatchOption r (NoGoal declared.now (functor (codes "retract_fact") ∷ lexer.old)) (ReadsGoal declared.now (functor (codes "retract_fact") ∷ lexer.old) lexer.new variables.old variables.new)) }
+{
+    let Some(arguments) = read_fact(alloc, lexer, declared, variables)? else {
+        return Ok(None);
+    };
+    Ok(Some(Goal::Retract(arguments)))
 }
 
 /// Reads a fact of the predicate that is declared and the parenthesis behind it, and gives its arguments.

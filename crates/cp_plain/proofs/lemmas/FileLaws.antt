@@ -1,6 +1,6 @@
 -- The parts of a plain file.
 use Rattle.std.proofs.Common.{◌≡◌, ℕ, List, [], ◌∷◌, ◌++◌, refl, sym, ◌∙◌, ap, subst, append_assoc}
-use Rattle.std.specs.Prelude.{Option, Some, None, codes}
+use Rattle.std.specs.Prelude.{Option, Some, None, Result, Ok, Err, MatchOption, IfOk, codes}
 use Rattle.std.specs.List.{list_all}
 use Rattle.cp_plain.specs.declared.program.Concurrent.{Concurrent}
 use Rattle.cp_plain.specs.declared.program.Goal.{Goal}
@@ -126,3 +126,14 @@ module _ (text : List ℕ) where
           };
           program = ap (λ (gs : List Goal). let p : PlainProgram = record { «module» = name; concurrent = declared; goals = gs } in p) clause.value;
         }
+
+-- what the reader of the goals answers is an answer on the clause
+module _ (declared : Option Concurrent) (old rest new : List Token) (begins : old ≡ word (codes "main") ∷ neck ∷ rest) where
+  clause-option : (o : Option (List Goal)) → MatchOption o (NoGoals declared rest) (ReadsGoals declared rest new) → MatchOption o (NoClause declared old) (ReadsClause declared old new)
+  clause-option None h = clause-none declared old rest begins h
+  clause-option (Some goals) h = clause-read declared old rest begins new goals h
+
+  pub clause-result : {E : Type 0} (r : Result (Option (List Goal)) E) → IfOk r (λ o. MatchOption o (NoGoals declared rest) (ReadsGoals declared rest new))
+      → IfOk r (λ o. MatchOption o (NoClause declared old) (ReadsClause declared old new))
+  clause-result (Ok o) h = clause-option o h
+  clause-result (Err e) h = tt

@@ -40,13 +40,13 @@ clause_cells-led xs some = let sum = cells_led-sum xs in omega arith
 
 module _ (declared : Option Concurrent) (start now : List Token) where
   -- some of the goals were read, each with the comma behind it
-  pub record GoalsRead (seen : Seen) (goals : List Goal) (cells : ℕ) : Type 0 where
+  pub record GoalsRead (seen : Seen) (goals : List Goal) (total : ℕ) : Type 0 where
     pub done : List SourceGoal
     pub tokens : start ≡ led goal_tokens done now
     pub lawful : list_all (is_lawful_goal declared) done ≡ true
     pub value : goals ≡ goals_of nothing_seen done
     pub names : seen ≡ seen_goals nothing_seen done
-    pub cells : cells ≡ 1 + cells_led done
+    pub cells : total ≡ 1 + cells_led done
     pub few : 1 + cells_led done ≤ 4096
 
 module _ (declared : Option Concurrent) (start now : List Token) (seen : Seen) (goals : List Goal) (cells : ℕ) (read : GoalsRead declared start now seen goals cells) where

@@ -119,6 +119,21 @@ module _ (arity : ℕ) (start now : List Token) (before seen : Seen) (arguments 
           names = one.names ∙ (ap (λ (s : Seen). seen_argument s one.said) read.names ∙ sym (seen_arguments-push before read.done one.said));
         }
 
+    pub arguments-more : (n : ℕ) → n ≡ length (arguments ++ argument ∷ []) → (n ≡ arity → ⊥) → length (arguments ++ argument ∷ []) < arity
+    arguments-more n len other =
+        let few = read.few in
+        let k = arguments-len in
+        let n1 = length-push arguments argument in
+        let same : length (arguments ++ argument ∷ []) ≡ arity → ⊥ = λ e. other (len ∙ e) in
+        omega arith
+
+    pub arguments-smaller : (after : List Argument) → after ≡ arguments ++ argument ∷ [] → arity - length after < arity - length arguments
+    arguments-smaller after e =
+        let few = read.few in
+        let k = arguments-len in
+        let n1 = ap length e ∙ length-push arguments argument in
+        omega arith
+
     -- what stands behind the argument that was read
     module _ (said : List SourceArgument) (ts : List Token) (len : length said ≡ arity) (lawful : list_all is_lawful_argument said ≡ true) (tokens : start ≡ arguments_tokens said ++ close ∷ ts) where
       behind_argument : (a : SourceArgument) (args : List SourceArgument) → now ≡ arguments_tokens (a ∷ args) ++ close ∷ ts
