@@ -1,6 +1,8 @@
 -- The parts of a plain file.
-use Rattle.std.proofs.Common.{◌≡◌, ℕ, List, [], ◌∷◌, ◌++◌, refl, sym, ◌∙◌, ap, subst, append_assoc}
-use Rattle.std.specs.Prelude.{Option, Some, None, Result, Ok, Err, MatchOption, IfOk, codes}
+use Rattle.std.proofs.Common.{◌≡◌, ℕ, List, [], ◌∷◌, ◌++◌, refl, sym, ◌∙◌, ap, subst, append_assoc, true, false, true≢false}
+use Rattle.std.specs.Prelude.{Option, Some, None, Result, Ok, Err, MatchOption, IfOk, is_some, codes}
+use Rattle.cp_plain.specs.declared.token.Token.{Token as ReadToken}
+use Rattle.cp_plain.specs.Lexing.{token_of}
 use Rattle.std.specs.List.{list_all}
 use Rattle.cp_plain.specs.declared.program.Concurrent.{Concurrent}
 use Rattle.cp_plain.specs.declared.program.Goal.{Goal}
@@ -137,3 +139,13 @@ module _ (declared : Option Concurrent) (old rest new : List Token) (begins : ol
       → IfOk r (λ o. MatchOption o (NoClause declared old) (ReadsClause declared old new))
   clause-result (Ok o) h = clause-option o h
   clause-result (Err e) h = tt
+
+-- whether a token was the next
+pub next-none : (r : Option ReadToken) (old new : List Token) → is_some r ≡ false → MatchOption r ((old ≡ []) × (new ≡ [])) (λ t. old ≡ token_of t ∷ new) → old ≡ []
+next-none None old new e h = h.0
+next-none (Some t) old new e h = absurd (true≢false e)
+
+pub next-some : (r : Option ReadToken) (old new : List Token) → is_some r ≡ true → MatchOption r ((old ≡ []) × (new ≡ [])) (λ t. old ≡ token_of t ∷ new)
+    → (t : Token) × (old ≡ t ∷ new)
+next-some None old new e h = absurd (true≢false (sym e))
+next-some (Some t) old new e h = (token_of t, h)
