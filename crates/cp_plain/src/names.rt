@@ -82,7 +82,40 @@ fn is_builtin(name: &[u8], arity: u64) -> bool
     is_call(name, arity) || is_among(builtins_of(arity), name)
 }
 
-const UNARY: [&[u8]; 32] = [b"throw", b"var", b"nonvar", b"atom", b"integer", b"number", b"atomic", b"compound", b"callable", b"ground", b"term", b"int", b"nnegint", b"num", b"atm", b"struct", b"gnd", b"constant", b"list", b"write", b"writeq", b"current_fact", b"retract_fact", b"current_fact_nb", b"retract_fact_nb", b"asserta_fact", b"assertz_fact", b"retractall_fact", b"set_fact", b"close_predicate", b"open_predicate", b"eng_wait"];
+const UNARY: [&[u8]; 32] = [
+    b"throw",
+    b"var",
+    b"nonvar",
+    b"atom",
+    b"integer",
+    b"number",
+    b"atomic",
+    b"compound",
+    b"callable",
+    b"ground",
+    b"term",
+    b"int",
+    b"nnegint",
+    b"num",
+    b"atm",
+    b"struct",
+    b"gnd",
+    b"constant",
+    b"list",
+    b"write",
+    b"writeq",
+    b"current_fact",
+    b"retract_fact",
+    b"current_fact_nb",
+    b"retract_fact_nb",
+    b"asserta_fact",
+    b"assertz_fact",
+    b"retractall_fact",
+    b"set_fact",
+    b"close_predicate",
+    b"open_predicate",
+    b"eng_wait",
+];
 
 const BINARY: [&[u8]; 4] = [b"copy_term", b"atom_codes", b"number_codes", b"atom_length"];
 

@@ -61,7 +61,7 @@ module _ {X : Type 0} (said : X → List Token) where
           let no : comma ≡ end = cc same.1 in absurd (apart no)
       list_one (x ∷ y ∷ ys) (z ∷ w ∷ ws) ls bs e =
           let same = one x z (comma ∷ between_commas said (y ∷ ys) ++ end ∷ ls) (comma ∷ between_commas said (w ∷ ws) ++ end ∷ bs)
-              (sym (append_assoc (said x) (comma ∷ between_commas said (y ∷ ys)) (end ∷ ls)) ∙ (e ∙ append_assoc (said z) (comma ∷ between_commas said (w ∷ ws)) (end ∷ bs))) in
+          (sym (append_assoc (said x) (comma ∷ between_commas said (y ∷ ys)) (end ∷ ls)) ∙ (e ∙ append_assoc (said z) (comma ∷ between_commas said (w ∷ ws)) (end ∷ bs))) in
           let rest : between_commas said (y ∷ ys) ++ end ∷ ls ≡ between_commas said (w ∷ ws) ++ end ∷ bs = cc same.1 in
           let more = list_one (y ∷ ys) (w ∷ ws) ls bs rest in
           (ap (λ u. u ∷ (y ∷ ys)) same.0 ∙ ap (λ us. z ∷ us) more.0, more.1)

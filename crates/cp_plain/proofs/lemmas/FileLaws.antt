@@ -70,9 +70,11 @@ declaration_one old new (Some p) (Some q) ts read e =
     let both : declaration_tokens (Some p) ++ new ≡ declaration_tokens (Some q) ++ word (codes "main") ∷ ts = sym read.tokens ∙ e in
     let name : p.name ≡ q.name = cc both in
     let arity : p.arity ≡ q.arity = cc both in
-    let left : new ≡ word (codes "main") ∷ ts = cc both in
-    (ap (λ (n : List ℕ). let r : Concurrent = record { name = n; arity = p.arity } in Some r) name
-    ∙ ap (λ (n : ℕ). let r : Concurrent = record { name = q.name; arity = n } in Some r) arity, left)
+    let left : new ≡ word (codes "main") ∷ ts = cc both in (
+      ap (λ (n : List ℕ). let r : Concurrent = record { name = n; arity = p.arity } in Some r) name
+          ∙ ap (λ (n : ℕ). let r : Concurrent = record { name = q.name; arity = n } in Some r) arity,
+      left,
+    )
 
 module _ (text : List ℕ) where
   pub no_header : NoHeader (tokens text) → IsNoPlainFile text
@@ -99,11 +101,11 @@ module _ (text : List ℕ) where
       no_clause none source reads lawful =
           let same = behind_declaration source reads in
           let goals : AreLawfulGoals declared source.goals =
-              record {
-                each = ap (λ (d : Option Concurrent). list_all (is_lawful_goal d) source.goals) same.0 ∙ lawful.goals;
-                some_goal = lawful.some_goal;
-                cells = lawful.cells;
-              } in
+          record {
+            each = ap (λ (d : Option Concurrent). list_all (is_lawful_goal d) source.goals) same.0 ∙ lawful.goals;
+            some_goal = lawful.some_goal;
+            cells = lawful.cells;
+          } in
           none source.goals [] goals (same.1 ∙ sym (append-nil (clause_tokens source.goals)))
 
       module _ (third : List Token) (goals : List Goal) (clause : ReadsClause declared second third goals) where

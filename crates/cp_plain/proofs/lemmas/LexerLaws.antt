@@ -148,9 +148,9 @@ module _ where
   token_at-IsToken c text =
       let name = run_of is_alphanumeric c text in
       let spelled : is_ascii_lowercase c ≡ true → begins_small name ≡ true = λ low.
-          ap (λ b. b && list_all is_alphanumeric (take (prefix_len is_alphanumeric text) text)) low ∙ list_all-run is_alphanumeric text in
+      ap (λ b. b && list_all is_alphanumeric (take (prefix_len is_alphanumeric text) text)) low ∙ list_all-run is_alphanumeric text in
       let small : is_ascii_lowercase c ≡ true → nat_lt 1024 (length name) ≡ false → IsSmallLetterName name = λ low short.
-          record { spelled = spelled low; short = ltb-false 1024 (length name) short } in
+      record { spelled = spelled low; short = ltb-false 1024 (length name) short } in
       at_token Lexical tt c text (λ low. at_name Lexical tt name (rest_of is_alphanumeric text) (small low) (small low)) tt
       (at_integer Lexical tt (run_of is_ascii_digit c text) (rest_of is_ascii_digit text) (λ low. ltb-true (digits_value 10 (run_of is_ascii_digit c text)) (2 ^ 63) low))
       (at_symbols Lexical tt (run_of is_symbol c text) (rest_of is_symbol text) tt tt tt)
@@ -201,8 +201,8 @@ pub first_token-symbol : (c : ℕ) (more text front back : List ℕ) (p : TokenA
     → p ≡ symbol_token front back → Some p ≡ first_token text
 first_token-symbol c more text front back p begins h1 h2 h3 h4 e k is =
     let chosen = fourth (is_ascii_lowercase c) (begins_variable c) (is_ascii_digit c) (is_symbol c) (name_token (run_of is_alphanumeric c more) (rest_of is_alphanumeric more))
-        (variable (run_of is_alphanumeric c more), rest_of is_alphanumeric more) (integer_token (run_of is_ascii_digit c more) (rest_of is_ascii_digit more))
-        (symbol_token (run_of is_symbol c more) (rest_of is_symbol more)) (punctuation_token c more) h1 h2 h3 h4 in
+    (variable (run_of is_alphanumeric c more), rest_of is_alphanumeric more) (integer_token (run_of is_ascii_digit c more) (rest_of is_ascii_digit more))
+    (symbol_token (run_of is_symbol c more) (rest_of is_symbol more)) (punctuation_token c more) h1 h2 h3 h4 in
     let own : p ≡ symbol_token (run_of is_symbol c more) (rest_of is_symbol more) =
-        is ∙ (ap (λ xs. symbol_token xs back) e ∙ ap (λ xs. symbol_token (run_of is_symbol c more) xs) k) in
+    is ∙ (ap (λ xs. symbol_token xs back) e ∙ ap (λ xs. symbol_token (run_of is_symbol c more) xs) k) in
     ap (λ x. Some x) (own ∙ sym chosen) ∙ ap first_token (sym begins)

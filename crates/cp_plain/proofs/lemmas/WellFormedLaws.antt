@@ -61,15 +61,17 @@ module _ (seen : Seen) (v : List ℕ) (counted : IsCounted seen) where
   nameless-counted = record { below = λ w n e. let h = counted.below w n e in omega arith }
 
   new-counted : IsCounted (with_new seen v)
-  new-counted = record { below = λ w n e.
-    elim (number_in-push seen.names v w seen.count n e) [ inl h ↦ let k = counted.below w n h in omega arith | inr h ↦ omega arith ] }
+  new-counted = record {
+    below = λ w n e.
+        elim (number_in-push seen.names v w seen.count n e) [ inl h ↦ let k = counted.below w n h in omega arith | inr h ↦ omega arith ];
+  }
 
   -- a variable's number is below the number of variables with it, which is one more at most
   variable-counted : IsCounted (seen_with seen v) × (seen.count ≤ (seen_with seen v).count) × ((seen_with seen v).count ≤ seen.count + 1) × (number_of seen v < (seen_with seen v).count)
   variable-counted =
       elim (bytes_eq v (codes "_")) as (λ b.
-        let after = cond b (with_nameless seen) (cond (is_some (number_in seen.names v)) seen (with_new seen v)) in
-        IsCounted after × (seen.count ≤ after.count) × (after.count ≤ seen.count + 1) × (cond b seen.count (unwrap_or (number_in seen.names v) seen.count) < after.count)) [
+      let after = cond b (with_nameless seen) (cond (is_some (number_in seen.names v)) seen (with_new seen v)) in
+      IsCounted after × (seen.count ≤ after.count) × (after.count ≤ seen.count + 1) × (cond b seen.count (unwrap_or (number_in seen.names v) seen.count) < after.count)) [
         | true ↦ (nameless-counted, omega arith, omega arith, omega arith)
         | false ↦ elim (number_in seen.names v) as (λ o. number_in seen.names v ≡ o →
             (let after = cond (is_some o) seen (with_new seen v) in

@@ -46,7 +46,7 @@ loop-arguments-preserved c =
     let r = c.read_argument.new in
     let one = rw c.in-Some.is at c.in_ok-argument.ensures in
     let more = arguments-more c.args.arity c.args.lexer.now l.lexer c.args.variables.now l.variables l.arguments l.invariant r.lexer r.variables c.in-Some.argument one c.len.result
-        (c.len.ensures ∙ ap length c.in_ok-push.ensures.ok) c.if-len-arity.false in
+    (c.len.ensures ∙ ap length c.in_ok-push.ensures.ok) c.if-len-arity.false in
     subst (λ (xs : List Argument). ArgumentsRead c.args.arity c.args.lexer.now c.takes-in-loop-arguments.new.self c.args.variables.now r.variables xs) (sym c.in_ok-push.ensures.ok)
     (arguments-step c.args.arity c.args.lexer.now l.lexer c.args.variables.now l.variables l.arguments l.invariant r.lexer r.variables c.in-Some.argument one
     c.takes-in-loop-arguments.new.self c.if-not-takes.ensures.token more)

@@ -43,6 +43,6 @@ loop-goals-preserved c =
     let same = c.takes-ends.ensures.unchanged c.if-ends.false in
     let next = rw c.if-not-goes_on.false at c.takes-goes_on.ensures.token in
     let step = goals-step c.args.declared.now c.args.lexer.now l.lexer l.variables l.goals l.cells l.invariant c.read_goal.new.lexer c.read_goal.new.variables c.in-Some.goal
-        (rw c.in-Some.is at c.in_ok-goal.ensures) c.takes-goes_on.new.self (sym same ∙ next) (omega arith) in
+    (rw c.in-Some.is at c.in_ok-goal.ensures) c.takes-goes_on.new.self (sym same ∙ next) (omega arith) in
     subst (λ (n : ℕ). GoalsRead c.args.declared.now c.args.lexer.now c.takes-goes_on.new.self c.read_goal.new.variables c.push.new.self (l.cells + (1 + n))) (sym size)
     (subst (λ (gs : List Goal). GoalsRead c.args.declared.now c.args.lexer.now c.takes-goes_on.new.self c.read_goal.new.variables gs (l.cells + (1 + cells_of c.in-Some.goal))) (sym c.in_ok-push.ensures.ok) step)
