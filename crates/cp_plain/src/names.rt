@@ -4,7 +4,7 @@ ghost use Rattle.std.specs.Str.{bytes_eq};
 ghost use Rattle.cp_plain.specs.Tokens.{IsSmallLetterName};
 ghost use Rattle.cp_plain.specs.Source.{is_operator, builtins_of, is_builtin, is_lawful_module, is_lawful_predicate};
 
-use cp_term::Name;
+use cp_term::{Name, NameError};
 use std::alloc::{AllocError, Global};
 
 /// The name that a small-letter word spells.
@@ -14,7 +14,9 @@ pub(crate) fn name_of(alloc: Global, word: &[u8]) -> Result<Name, AllocError>
 {
     match Name::of(alloc, word) {
         Ok(name) => Ok(name),
-        Err(_) => Err(AllocError),
+        Err(NameError::NoMemory) => Err(AllocError),
+        Err(NameError::NotUtf8) => unreachable!(),
+        Err(NameError::TooLong) => unreachable!(),
     }
 }
 
