@@ -1,1 +1,6 @@
 pub mod Resolution
+pub mod Bindings
+pub mod Endings
+pub mod Dues
+pub mod Turns
+pub mod Continuation
