@@ -1,2 +1,5 @@
 pub mod Patterns
 pub mod Unifying
+pub mod Running
+pub mod Finding
+pub mod Results

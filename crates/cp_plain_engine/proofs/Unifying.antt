@@ -134,8 +134,8 @@ module _ (s : Substitution) (arguments : List Argument) (cells : List Cell) (shi
   next_pair a b rest within within_cells left right h step =
       h
       ∙ (λ i. unify s
-          (map cell_of ((drop_more arguments at a within ∙ ap (λ x. x ∷ drop (at + 1) arguments) (sym left)) i))
-          (fresh shift ((drop_more cells at b within_cells ∙ ap (λ x. x ∷ drop (at + 1) cells) (sym right)) i)))
+      (map cell_of ((drop_more arguments at a within ∙ ap (λ x. x ∷ drop (at + 1) arguments) (sym left)) i))
+      (fresh shift ((drop_more cells at b within_cells ∙ ap (λ x. x ∷ drop (at + 1) cells) (sym right)) i)))
       ∙ step (map cell_of (drop (at + 1) arguments)) (fresh shift (drop (at + 1) cells))
 
   pub no_pair : length arguments ≤ at → length arguments ≡ length cells → total ≡ unify s (map cell_of (drop at arguments)) (fresh shift (drop at cells)) → total ≡ Some s

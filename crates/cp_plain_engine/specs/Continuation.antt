@@ -9,6 +9,7 @@ use Rattle.cp_call.specs.declared.item.How.TheVariants as how
 use Rattle.cp_call.specs.declared.item.Next.{Next}
 use Rattle.cp_call.specs.declared.item.Next.TheVariants as next
 use Rattle.cp_call.specs.declared.item.Input.{Input}
+use Rattle.cp_plain.specs.declared.program.Argument.{Argument}
 use Rattle.cp_plain.specs.declared.program.PlainProgram.{PlainProgram}
 use Rattle.cp_plain_engine.specs.Resolution.{cell_of, fact_of, text_of, writes, asserts, retracts, goes_on, runs}
 use Rattle.cp_plain_engine.specs.Bindings.{substitution_of}
@@ -41,6 +42,14 @@ continuation_by p r (Some e) inputs = next.End (how_of (p.module) e)
 abbrev pub continuation : PlainProgram → Run → List Input → Next
 continuation p r inputs = continuation_by p r r.ending inputs
 
+-- what a run does where a fact with these arguments is to be taken
+abbrev pub does_retract : PlainProgram → Run → List Argument → List Input → Next
+does_retract p r arguments inputs =
+    retracts (canon (apply (bound_by r) (fact_of p.concurrent arguments))) (p.module)
+    (λ fact more. goes_on (goals_behind_with p r (r.free + next_variable fact) more) (unify (bound_by r) (fact_of p.concurrent arguments) (fresh r.free fact)))
+    (goals_behind p r)
+    inputs
+
 -- what a run does where this is due
 abbrev pub does : PlainProgram → Run → Due → List Input → Next
 does p r due.Answer inputs = runs p [] (bound_by r) r.free r.units inputs
@@ -48,11 +57,7 @@ does p r due.Steps inputs = next.End how.Steps
 does p r due.Newline inputs = writes (10 ∷ []) (p.module) (codes "nl") 0 (goals_behind p r) inputs
 does p r (due.Write a) inputs = writes (text_of (apply (bound_by r) (cell_of a.now ∷ []))) (p.module) (codes "write") 1 (goals_behind p r) inputs
 does p r (due.Assert a) inputs = asserts (canon (apply (bound_by r) (fact_of p.concurrent a.now))) (p.module) (goals_behind p r) inputs
-does p r (due.Retract a) inputs =
-    retracts (canon (apply (bound_by r) (fact_of p.concurrent a.now))) (p.module)
-    (λ fact more. goes_on (goals_behind_with p r (r.free + next_variable fact) more) (unify (bound_by r) (fact_of p.concurrent a.now) (fresh r.free fact)))
-    (goals_behind p r)
-    inputs
+does p r (due.Retract a) inputs = does_retract p r a.now inputs
 
 -- what it asks then
 abbrev pub request_of : PlainProgram → Substitution → Due → Next

@@ -1,6 +1,8 @@
 -- What inputs make of a run whose goal asked for them.
-use Rattle.std.specs.Prelude.{◌+◌, ◌-◌, Option, Some, None, List}
+use Rattle.std.specs.Prelude.{◌≡◌, ℕ, ◌+◌, ◌-◌, Option, Some, None, List, ◌∷◌, length}
 use Rattle.cp_term.specs.declared.cell.Cell.{Cell}
+use Rattle.cp_term.specs.declared.cell.Cell.TheVariants.{Func}
+use Rattle.cp_plain.specs.declared.program.Concurrent.{Concurrent}
 use Rattle.cp_call.specs.declared.call.Reply.TheVariants as reply
 use Rattle.cp_call.specs.declared.item.PutReply.TheVariants as put
 use Rattle.cp_call.specs.declared.item.Input.{Input}
@@ -48,3 +50,7 @@ turned (turn.End e) r = record r { ending = Some e }
 abbrev pub found_of : Input → Option (List Cell)
 found_of (input.Reply (reply.Found place fact)) = Some fact
 found_of _ = None
+
+-- the fact of this predicate with these cells as its arguments
+abbrev pub IsFactOf : Concurrent → (count : ℕ) → List Cell → List Cell → Type 0
+IsFactOf c count cells fact = (fact ≡ Func c.name count ∷ cells) × (length cells ≡ count)

@@ -21,12 +21,7 @@ pub enum Ending {
 }
 
 /// `error(system_error(output), Module:Name/Arity)`
-fn output_error_of(
-    alloc: Global,
-    module: &Name,
-    name: &[u8],
-    arity: u16,
-) -> Result<How, AllocError>
+fn output_error_of(alloc: Global, module: &Name, name: &[u8], arity: u16) -> Result<How, AllocError>
     ensures { IfOk result (λ how. how ≡ How.Ball (output_error «module».now name.now arity)) }
 {
     let ball = error(alloc, b"system_error", b"output", module, name, arity)?;

@@ -3,14 +3,19 @@
 
 mod due;
 mod ending;
+mod found;
 mod free;
+mod machine;
 mod pattern;
+mod request;
 mod rule;
 mod run;
+mod tell;
 mod term;
 mod text;
 mod turn;
 mod unify;
 mod value;
 
+pub use machine::PlainMachine;
 pub use rule::{PlainCode, PlainRule};

@@ -1,6 +1,5 @@
 ghost use Rattle.std.specs.Prelude.{◌≡◌, ◌+◌, ◌-◌, ◌<◌, ◌^◌, length, List, Option, None, Some, OnOk, IfOk};
 ghost use Rattle.cp_call.specs.declared.item.Input.{Input};
-ghost use Rattle.cp_term.specs.declared.cell.Cell.{Cell};
 
 use crate::due::{Due, due_of};
 use crate::ending::Ending;
@@ -22,13 +21,24 @@ pub struct Run {
 }
 
 impl Run {
-    ghost use Rattle.cp_plain_engine.specs.Resolution.{plain_asks};
+    ghost use Rattle.cp_plain_engine.specs.Resolution.{runs_main};
     ghost use Rattle.cp_plain_engine.specs.Turns.{passed, turned};
     ghost use Rattle.cp_plain_engine.specs.Continuation.{continuation, goals_left, does, HasGoal};
 
+    /// A run of nothing, which has ended.
+    pub fn idle(alloc: Global) -> Run {
+        Run {
+            at: 0,
+            units: 0,
+            free: 0,
+            bindings: Vec::new(alloc),
+            ending: Some(Ending::Done),
+        }
+    }
+
     /// The run of `main` with this budget, whose call costs a unit.
     pub fn begin(alloc: Global, program: &PlainProgram, steps: u32) -> Result<Run, AllocError>
-        ensures { IfOk result (λ run. (goal : List Cell) (inputs : List Input) → continuation program.now run inputs ≡ plain_asks program.now steps goal inputs) }
+        ensures { IfOk result (λ run. (inputs : List Input) → continuation program.now run inputs ≡ runs_main program.now steps inputs) }
     {
         let Some(free) = first_free_of(program.goals.as_slice()) else {
             return Err(AllocError);

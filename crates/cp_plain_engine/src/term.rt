@@ -44,12 +44,7 @@ fn push_atom(alloc: Global, cells: &mut Cells, text: &[u8]) -> Result<(), AllocE
     Ok(())
 }
 
-fn push_functor(
-    alloc: Global,
-    cells: &mut Cells,
-    text: &[u8],
-    arity: u16,
-) -> Result<(), AllocError>
+fn push_functor(alloc: Global, cells: &mut Cells, text: &[u8], arity: u16) -> Result<(), AllocError>
     ensures { OnOk result (cells.new ≡ cells.old ++ Cell.Func text.now arity ∷ []) }
 {
     let name = name_of(alloc, text)?;
