@@ -4,3 +4,4 @@ pub mod Endings
 pub mod Dues
 pub mod Turns
 pub mod Continuation
+pub mod Asking

@@ -5,6 +5,7 @@ mod due;
 mod ending;
 mod found;
 mod free;
+mod laws;
 mod machine;
 mod pattern;
 mod request;
@@ -17,5 +18,11 @@ mod turn;
 mod unify;
 mod value;
 
+pub use laws::{
+    ends_come_of_inputs, facts_that_are_seen_unify, goals_ask_one_object, units_suffice,
+};
 pub use machine::PlainMachine;
 pub use rule::{PlainCode, PlainRule};
+
+#[cfg(test)]
+mod tests;

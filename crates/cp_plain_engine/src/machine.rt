@@ -28,7 +28,7 @@ fn next_of(alloc: Global, program: &PlainProgram, run: &mut Run) -> Result<Next,
 }
 
 /// Begins a run of `main`, and tells what it does first.
-fn begin(
+pub fn begin(
     alloc: Global,
     program: &PlainProgram,
     steps: u32,
@@ -43,7 +43,7 @@ fn begin(
 }
 
 /// Hands a run what it asked for, and tells what it does next.
-fn go_on(
+pub fn go_on(
     alloc: Global,
     program: &PlainProgram,
     run: &mut Run,
