@@ -1,5 +1,5 @@
 -- A fact that a goal sees unifies with it under its substitution, once it is renamed apart.
-use Rattle.std.proofs.Common.{◌≡◌, ℕ, zero, suc, ◌+◌, ◌-◌, ◌<◌, ◌≤◌, ◌⊎◌, inl, inr, max, Bool, true, false, cond, ◌||◌, nat_eq, nat_lt, List, [], ◌∷◌, ◌++◌, map, length, refl, sym, ◌∙◌, ap, subst, arith, append-nil}
+use Rattle.std.proofs.Common.{◌≡◌, ℕ, zero, suc, ◌+◌, ◌-◌, ◌<◌, ◌≤◌, ◌⊎◌, inl, inr, max, min, Bool, true, false, cond, ◌||◌, nat_eq, nat_lt, List, [], ◌∷◌, ◌++◌, map, length, refl, sym, ◌∙◌, ap, subst, arith, append-nil}
 use Rattle.std.proofs.lemmas.Bool.{or_cases, and_parts, false≢true, true≢false, eqb-true, eqb-false, eq-eqb, lt-ltb, le-ltb, ltb-true, ltb-false}
 use Rattle.std.specs.Prelude.{Option, Some, None, is_some}
 use Rattle.cp_term.specs.declared.cell.Cell.{Cell}
@@ -131,7 +131,7 @@ bound_to-BindsTerm v cells h =
 first_disagreement-BindsTerm : (n : ℕ) (c : Cell) (cs : List Cell) (d : Cell) (ds : List Cell) → is_terms (1 + n) (c ∷ cs) ≡ true → is_terms (1 + n) (d ∷ ds) ≡ true → BindsTerm (first_disagreement c cs d ds)
 first_disagreement-BindsTerm n =
     first_disagreement-cases (λ c cs d ds r. is_terms (1 + n) (c ∷ cs) ≡ true → is_terms (1 + n) (d ∷ ds) ≡ true → BindsTerm r)
-    (λ u v cs ds hx hy. bound_to-BindsTerm _ _ refl)
+    (λ u v cs ds hx hy. bound_to-BindsTerm (max u v) (Var (min u v) ∷ []) refl)
     (λ u cs d ds k hx hy. bound_to-BindsTerm u (d ∷ ds) (is_terms-take_terms 1 n (d ∷ ds) hy))
     (λ c cs v ds k hx hy. bound_to-BindsTerm v (c ∷ cs) (is_terms-take_terms 1 n (c ∷ cs) hx))
     (λ c cs d ds k l hx hy. tt)
