@@ -1,9 +1,9 @@
 -- Laws of what goals of a plain file do, for all inputs.
-use Rattle.std.proofs.Common.{◌≡◌, ℕ, zero, suc, ◌+◌, ◌<◌, ◌≤◌, List, [], ◌∷◌, ◌++◌, length, refl, arith}
-use Rattle.std.specs.Prelude.{Option, Some, None, codes}
+use Rattle.std.proofs.Common.{ℕ, zero, suc, ◌+◌, ◌<◌, ◌≤◌, List, [], ◌∷◌, ◌++◌, length, refl, arith}
+use Rattle.std.specs.Prelude.{Option, Some, None}
 use Rattle.cp_term.specs.declared.cell.Cell.{Cell}
-use Rattle.cp_term.specs.Numbering.{canon, fresh, next_variable}
-use Rattle.cp_term.specs.Substitution.{Substitution, apply}
+use Rattle.cp_term.specs.Numbering.{fresh, next_variable}
+use Rattle.cp_term.specs.Substitution.{Substitution}
 use Rattle.cp_term.specs.Unification.{unify}
 use Rattle.cp_call.specs.declared.call.Call.TheVariants as call
 use Rattle.cp_call.specs.declared.call.Reply.TheVariants as reply
@@ -114,7 +114,7 @@ runs-units p (goal.Assert arguments ∷ goals) s free (suc units) inputs h =
 runs-units p (goal.Retract arguments ∷ goals) s free (suc units) inputs h =
     retracts-hold IsNotSteps holds_steps _ _ _ _ inputs
     (λ fact more. goes_on-holds IsNotSteps holds_steps _ (unify s (fact_of p.concurrent arguments) (fresh free fact))
-      (λ t. runs-units p goals t (free + next_variable fact) units more (omega arith)))
+    (λ t. runs-units p goals t (free + next_variable fact) units more (omega arith)))
     (λ more. runs-units p goals s free units more (omega arith))
 
 -- `main` and its goals cost a unit each

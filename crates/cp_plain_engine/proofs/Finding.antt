@@ -1,20 +1,18 @@
 -- A fact that was found for a goal that takes one.
-use Rattle.std.proofs.Common.{◌≡◌, ℕ, ◌+◌, ◌-◌, Bool, true, false, List, [], ◌∷◌, map, length, get_or, take, drop, refl, sym, ◌∙◌, ap, suc, arith}
+use Rattle.std.proofs.Common.{◌≡◌, ℕ, ◌+◌, ◌-◌, List, [], ◌∷◌, map, length, get_or, take, drop, refl, sym, ◌∙◌, ap, suc, arith}
 use Rattle.std.proofs.Math.Seq.{take-length}
 use Rattle.std.specs.Prelude.{Option, Some, None}
 use Rattle.cp_term.specs.declared.cell.Cell.{Cell}
 use Rattle.cp_term.specs.declared.cell.Cell.TheVariants.{Func}
-use Rattle.cp_term.specs.Numbering.{fresh, next_variable}
+use Rattle.cp_term.specs.Numbering.{fresh}
 use Rattle.cp_term.specs.Substitution.{Substitution}
 use Rattle.cp_term.specs.Unification.{unify}
 use Rattle.cp_term.proofs.lemmas.Sequences.{unify-prefix}
-use Rattle.cp_call.specs.declared.item.Next.{Next}
 use Rattle.cp_call.specs.declared.item.Input.{Input}
 use Rattle.cp_plain.specs.declared.program.Argument.{Argument}
 use Rattle.cp_plain.specs.declared.program.Concurrent.{Concurrent}
 use Rattle.cp_plain.specs.declared.program.PlainProgram.{PlainProgram}
-use Rattle.cp_plain_engine.specs.Resolution.{cell_of, fact_of, fails, goes_on, runs}
-use Rattle.cp_plain_engine.specs.Bindings.{substitution_of, unified}
+use Rattle.cp_plain_engine.specs.Resolution.{cell_of, fact_of, goes_on, runs}
 use Rattle.cp_plain_engine.specs.Turns.{passed, IsFactOf}
 use Rattle.cp_plain_engine.specs.Continuation.{bound_by, goals_behind_with, continuation_by, continuation}
 use Rattle.cp_plain_engine.specs.declared.run.Run.{Run}

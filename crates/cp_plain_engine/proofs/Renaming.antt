@@ -1,19 +1,19 @@
 -- A fact that a goal sees unifies with it under its substitution, once it is renamed apart.
-use Rattle.std.proofs.Common.{◌≡◌, ℕ, zero, suc, ◌+◌, ◌-◌, ◌<◌, ◌≤◌, ◌⊎◌, inl, inr, max, min, Bool, true, false, cond, ◌||◌, nat_eq, nat_lt, List, [], ◌∷◌, ◌++◌, map, length, refl, sym, ◌∙◌, ap, subst, arith, append-nil}
-use Rattle.std.proofs.lemmas.Bool.{or_cases, and_parts, false≢true, true≢false, eqb-true, eqb-false, eq-eqb, lt-ltb, le-ltb, ltb-true, ltb-false}
+use Rattle.std.proofs.Common.{◌≡◌, ℕ, zero, suc, ◌+◌, ◌-◌, ◌<◌, ◌≤◌, ◌⊎◌, inl, inr, max, min, Bool, true, false, cond, ◌||◌, nat_eq, nat_lt, List, [], ◌∷◌, ◌++◌, map, length, refl, sym, ◌∙◌, ap, subst, arith}
+use Rattle.std.proofs.lemmas.Bool.{or_cases, and_parts, false≢true, eqb-true, eq-eqb, lt-ltb, le-ltb, ltb-true}
 use Rattle.std.specs.Prelude.{Option, Some, None, is_some}
 use Rattle.cp_term.specs.declared.cell.Cell.{Cell}
 use Rattle.cp_term.specs.declared.cell.Cell.TheVariants.{Var, Int, Atom, Func}
 use Rattle.cp_term.specs.CellEq.{cell_eq, cell_eq-true}
 use Rattle.cp_term.specs.Preorder.{has_arity, terms_after, is_terms, take_terms}
-use Rattle.cp_term.specs.Numbering.{renamed, fresh, next_variable, is_variable, occurs, place, seen_after, variables_from, canon_from, canon}
-use Rattle.cp_term.specs.Substitution.{instance_cell, instance, Binding, Substitution, value_under, replace, apply, IsBound, IsSolved}
-use Rattle.cp_term.specs.Unification.{Disagreement, Same, Clash, Bind, bound_to, first_disagreement, disagreement, disagreement_under, unify, unifiable_apart, UnifiesTo, same, clash, bind}
+use Rattle.cp_term.specs.Numbering.{renamed, fresh, next_variable, occurs, place, seen_after, variables_from, canon_from, canon}
+use Rattle.cp_term.specs.Substitution.{instance, Binding, Substitution, value_under, replace, apply, IsBound, IsSolved}
+use Rattle.cp_term.specs.Unification.{Disagreement, Same, Clash, Bind, bound_to, first_disagreement, disagreement, unify, unifiable_apart, UnifiesTo, same, clash, bind}
 use Rattle.cp_term.proofs.lemmas.PreorderLaws.{is_terms-take_terms, is_terms-map_renamed}
 use Rattle.cp_term.proofs.lemmas.NumberingLaws.{place-le, length-seen_after, is_terms-canon_from}
 use Rattle.cp_term.proofs.lemmas.SubstitutionLaws.{apply-append, apply-nil, apply-Int, apply-Atom, apply-Func, GivesTerms, instance-append, is_terms-instance, is_terms-apply, OfTerms}
-use Rattle.cp_term.proofs.lemmas.UnificationLaws.{IsNoVariable, first_disagreement-cases, unify-equal}
-use Rattle.cp_term.proofs.lemmas.Turns.{occurs-replace, below_next_variable, BindsWithin, disagreement-BindsWithin, unify-UnifiesTo}
+use Rattle.cp_term.proofs.lemmas.UnificationLaws.{first_disagreement-cases, unify-equal}
+use Rattle.cp_term.proofs.lemmas.Turns.{below_next_variable, disagreement-BindsWithin, unify-UnifiesTo}
 use Rattle.cp_term.proofs.lemmas.Solved.{apply-bound, unify-IsSolved}
 use Rattle.cp_term.proofs.lemmas.MostGeneral.{GivesMoreGeneral, unify-most_general}
 use Rattle.cp_plain_engine.proofs.Running.{next_variable-append}
@@ -314,15 +314,15 @@ module _ (free : ℕ) (s : Substitution) (fact found : List Cell) (sound : IsSou
       let all = value_after value s in
       let all_terms = value_after-GivesTerms value s value_terms sound.terms in
       let left : instance all fact ≡ apply r (canon (apply s fact)) =
-        instance-after value s fact
-        ∙ instance-below free n r seen (apply s fact) (apply-below free s fact sound.below fact_below)
-        ∙ ap (apply r) (sym (canon_from-renamed_by [] (apply s fact))) in
+      instance-after value s fact
+      ∙ instance-below free n r seen (apply s fact) (apply-below free s fact sound.below fact_below)
+      ∙ ap (apply r) (sym (canon_from-renamed_by [] (apply s fact))) in
       let right : instance all (fresh free found) ≡ apply r (fresh n found) =
-        instance-after value s (fresh free found)
-        ∙ ap (instance value) (apply-fresh free s found sound.below)
-        ∙ instance-above free n r seen found in
+      instance-after value s (fresh free found)
+      ∙ ap (instance value) (apply-fresh free s found sound.below)
+      ∙ instance-above free n r seen found in
       let of_s : (cells : List Cell) → instance all (apply s cells) ≡ instance all cells = λ cells.
-        instance-after value s (apply s cells) ∙ ap (instance value) (apply-twice s cells sound.solved) ∙ sym (instance-after value s cells) in
+      instance-after value s (apply s cells) ∙ ap (instance value) (apply-twice s cells sound.solved) ∙ sym (instance-after value s cells) in
       unified-more_general all all_terms (unify s fact (fresh free found))
       (unify-most_general all all_terms s fact (fresh free found) fact_term (is_terms-map_renamed (λ v. v + free) 1 found ∙ found_term) sound.terms of_s (left ∙ equal ∙ sym right))
 
@@ -349,5 +349,5 @@ module _ (free : ℕ) (s : Substitution) (fact found : List Cell) (sound : IsSou
         solved = unify-IsSolved s fact (fresh free found) t sound.solved e;
         terms = subst (IfUnified OfTerms) e (UnifiesTo-OfTerms fact (fresh free found) fact_term b_term sound.terms (unify-UnifiesTo s fact (fresh free found)));
         below = subst (IfUnified (IsBelow top)) e
-          (UnifiesTo-IsBelow top fact (fresh free found) (omega arith) (fresh-below free found) (IsBelow-more free top s (omega arith) sound.below) (unify-UnifiesTo s fact (fresh free found)));
+            (UnifiesTo-IsBelow top fact (fresh free found) (omega arith) (fresh-below free found) (IsBelow-more free top s (omega arith) sound.below) (unify-UnifiesTo s fact (fresh free found)));
       }

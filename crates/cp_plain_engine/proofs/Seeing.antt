@@ -1,7 +1,6 @@
 -- No goal fails that takes a fact which it sees.
-use Rattle.std.proofs.Common.{◌≡◌, ℕ, zero, suc, ◌+◌, ◌≤◌, max, true, List, [], ◌∷◌, ◌++◌, map, refl, sym, ◌∙◌, ap, subst, arith}
+use Rattle.std.proofs.Common.{◌≡◌, ℕ, zero, suc, ◌+◌, ◌≤◌, max, true, List, [], ◌∷◌, ◌++◌, map, refl, ◌∙◌, ap, arith}
 use Rattle.std.proofs.lemmas.List.{map-append}
-use Rattle.std.proofs.lemmas.Bool.{false≢true}
 use Rattle.std.specs.Prelude.{Option, Some, None}
 use Rattle.std.specs.List.{flat_map}
 use Rattle.cp_term.specs.declared.cell.Cell.{Cell}
@@ -114,7 +113,7 @@ AreBelow free goals = first_free goals ≤ free
 below-first : (free : ℕ) (g : Goal) (goals : List Goal) → AreBelow free (g ∷ goals) → (next_variable (map cell_of (arguments_of g)) ≤ free) × AreBelow free goals
 below-first free g goals h =
     let split : first_free (g ∷ goals) ≡ max (next_variable (map cell_of (arguments_of g))) (first_free goals) =
-      ap next_variable (map-append cell_of (arguments_of g) (flat_map arguments_of goals)) ∙ next_variable-append (map cell_of (arguments_of g)) (map cell_of (flat_map arguments_of goals)) in
+    ap next_variable (map-append cell_of (arguments_of g) (flat_map arguments_of goals)) ∙ next_variable-append (map cell_of (arguments_of g)) (map cell_of (flat_map arguments_of goals)) in
     (omega arith, omega arith)
 
 fact-below : (free : ℕ) (c : Option Concurrent) (arguments : List Argument) → next_variable (map cell_of arguments) ≤ free → next_variable (fact_of c arguments) ≤ free
@@ -138,9 +137,9 @@ runs-seen p (goal.Retract arguments ∷ goals) s free (suc units) terms sound be
     let fact_below = fact-below free p.concurrent arguments parts.0 in
     retracts-seen (canon (apply s fact)) _ _ _
     (λ found found_term. goes_on-seen _ (unify s fact (fresh free found))
-      (λ t e. runs-seen p goals t (free + next_variable found) units terms.1 (unify-IsSound free s fact found sound terms.0 fact_below found_term t e) (let b = parts.1 in omega arith)))
+    (λ t e. runs-seen p goals t (free + next_variable found) units terms.1 (unify-IsSound free s fact found sound terms.0 fact_below found_term t e) (let b = parts.1 in omega arith)))
     (λ found found_term seen. goes_on-begins _ (unify s fact (fresh free found)) (seen-unifies free s fact found sound terms.0 fact_below found_term seen)
-      (λ t. no_failure (runs p goals t (free + next_variable found) units []) (runs-first p goals t (free + next_variable found) units input.More)))
+    (λ t. no_failure (runs p goals t (free + next_variable found) units []) (runs-first p goals t (free + next_variable found) units input.More)))
     (runs-seen p goals s free units terms.1 sound parts.1) inputs i
 
 pub plain_asks-seen : (p : PlainProgram) (steps : ℕ) (g : List Cell) (inputs : List Input) (i : Input) → TakesTerms p.concurrent p.goals → AreTermsFound inputs

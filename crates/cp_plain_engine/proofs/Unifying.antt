@@ -1,15 +1,15 @@
 -- Unification of arguments with the cells of a fact, one after another.
-use Rattle.std.proofs.Common.{◌≡◌, ◌≢◌, ℕ, ◌<◌, ◌≤◌, max, min, Bool, true, false, cond, ◌||◌, nat_eq, List, [], ◌∷◌, ◌++◌, map, refl, sym, ◌∙◌, ap, subst, arith, ◌+◌, length, get_or, drop}
+use Rattle.std.proofs.Common.{◌≡◌, ◌≢◌, ℕ, ◌<◌, ◌≤◌, max, min, Bool, true, false, cond, ◌||◌, nat_eq, List, [], ◌∷◌, ◌++◌, map, refl, sym, ◌∙◌, ap, arith, ◌+◌, length, get_or, drop}
 use Rattle.std.proofs.lemmas.List.{drop_more}
 use Rattle.std.proofs.Math.ListN.{drop_of_length-le}
 use Rattle.std.proofs.lemmas.List.{map-append}
-use Rattle.std.proofs.lemmas.Bool.{eq-eqb, ne_eqb, eqb-true, eqb-false}
+use Rattle.std.proofs.lemmas.Bool.{eq-eqb, ne_eqb, eqb-false}
 use Rattle.std.specs.Prelude.{Option, Some, None}
 use Rattle.cp_term.specs.declared.cell.Cell.{Cell}
-use Rattle.cp_term.specs.declared.cell.Cell.TheVariants.{Var, Int, Atom, Func}
-use Rattle.cp_term.specs.CellEq.{cell_eq, cell_eq-true, cell_eq-refl}
-use Rattle.cp_term.specs.Numbering.{renamed, fresh, occurs}
-use Rattle.cp_term.specs.Substitution.{Binding, Substitution, value_under, replace, apply}
+use Rattle.cp_term.specs.declared.cell.Cell.TheVariants.{Var, Int, Atom}
+use Rattle.cp_term.specs.CellEq.{cell_eq, cell_eq-true}
+use Rattle.cp_term.specs.Numbering.{renamed, fresh}
+use Rattle.cp_term.specs.Substitution.{Binding, Substitution, replace, apply}
 use Rattle.cp_term.specs.Unification.{Disagreement, Same, Clash, Bind, bound_to, first_disagreement, disagreement, disagreement_under, unify}
 use Rattle.cp_term.proofs.lemmas.SubstitutionLaws.{apply-append, apply-after, apply-nil}
 use Rattle.cp_term.proofs.lemmas.Sequences.{unify-prefix, unify-same, unify-bind, unify-clash}

@@ -1,5 +1,5 @@
 -- What is left of a run of the machine, in the words of the definition.
-use Rattle.std.specs.Prelude.{ℕ, ◌+◌, ◌-◌, ◌<◌, Option, Some, None, List, [], ◌∷◌, drop, codes}
+use Rattle.std.specs.Prelude.{ℕ, ◌+◌, ◌-◌, Option, Some, None, List, [], ◌∷◌, drop, codes}
 use Rattle.cp_term.specs.declared.cell.Cell.TheVariants.{Atom}
 use Rattle.cp_term.specs.Numbering.{canon, fresh, next_variable}
 use Rattle.cp_term.specs.Substitution.{Substitution, apply}

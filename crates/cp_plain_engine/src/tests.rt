@@ -134,7 +134,12 @@ fn a_fact_is_added_taken_and_written(rt: HostRuntime) -> Result<(), Fail> {
     assert!(rt; takes(&go_on(alloc, &program, &mut run, added(alloc))?, 2));
     let next = go_on(alloc, &program, &mut run, found(q_one(alloc)?))?;
     assert!(rt; puts(&next, b"1"));
-    assert!(rt; puts(&go_on(alloc, &program, &mut run, Input::Put(PutReply::Wrote))?, b"\n"));
+    assert!(rt;
+        puts(
+            &go_on(alloc, &program, &mut run, Input::Put(PutReply::Wrote))?,
+            b"\n"
+        )
+    );
     let next = go_on(alloc, &program, &mut run, Input::Put(PutReply::Wrote))?;
     assert!(rt; matches!(next, Next::Answer { .. }));
     let next = go_on(alloc, &program, &mut run, Input::More)?;

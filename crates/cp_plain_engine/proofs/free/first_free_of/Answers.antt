@@ -1,4 +1,3 @@
-use Rattle.std.proofs.Common.{arith}
 use Rattle.cp_plain_engine.proofs.Running.{first_free-next}
 use Rattle.cp_plain_engine.proofs.free.first_free_of.Goals as goal
 

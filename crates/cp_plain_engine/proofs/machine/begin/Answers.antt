@@ -1,4 +1,4 @@
-use Rattle.std.proofs.Common.{◌≡◌, ◌∙◌}
+use Rattle.std.proofs.Common.{◌∙◌}
 use Rattle.cp_plain_engine.proofs.Results.{on_ok, if_ok_trans}
 use Rattle.cp_plain_engine.proofs.machine.begin.Goals as goal
 

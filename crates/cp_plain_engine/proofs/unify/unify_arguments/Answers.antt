@@ -1,6 +1,5 @@
-use Rattle.std.proofs.Common.{rules, ◌≡◌, ◌+◌, ◌<◌, true, false, length, map, drop, ap, sym, ◌∙◌, arith}
+use Rattle.std.proofs.Common.{rules, ◌≡◌, ◌+◌, true, false, map, drop, ap, ◌∙◌, arith}
 use Rattle.cp_term.specs.Numbering.{fresh}
-use Rattle.cp_term.specs.Unification.{unify}
 use Rattle.cp_plain_engine.specs.Resolution.{cell_of}
 use Rattle.cp_plain_engine.specs.Bindings.{substitution_of, unified_rest}
 use Rattle.cp_plain_engine.proofs.Unifying.{next_pair, no_pair}

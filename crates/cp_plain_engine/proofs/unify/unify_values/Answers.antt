@@ -2,7 +2,7 @@ use Rattle.std.proofs.Common.{◌+◌, ap, sym, ◌∙◌}
 use Rattle.cp_term.specs.Numbering.{renamed}
 use Rattle.cp_term.specs.Unification.{unify}
 use Rattle.cp_plain_engine.specs.Resolution.{cell_of}
-use Rattle.cp_plain_engine.specs.Bindings.{cell_at, substitution_of}
+use Rattle.cp_plain_engine.specs.Bindings.{substitution_of}
 use Rattle.cp_plain_engine.proofs.Unifying.{unify-by, under-equal, substitution_of-push}
 use Rattle.cp_plain_engine.proofs.unify.unify_values.Goals as goal
 

@@ -1,4 +1,4 @@
-use Rattle.std.proofs.Common.{◌≡◌, ◌<◌, length, get_or, ap, ◌∙◌, arith}
+use Rattle.std.proofs.Common.{get_or, ap, ◌∙◌, arith}
 use Rattle.cp_plain_engine.proofs.Running.{at_steps, at_goal}
 use Rattle.cp_plain_engine.proofs.run.Run.due.Goals as goal
 

@@ -1,4 +1,4 @@
-use Rattle.std.proofs.Common.{◌≡◌, ◌-◌, List}
+use Rattle.std.proofs.Common.{◌≡◌, List}
 use Rattle.cp_call.specs.declared.item.Input.{Input}
 use Rattle.cp_plain_engine.specs.Continuation.{goals_left}
 use Rattle.cp_plain_engine.proofs.run.Run.due.Given as goal
