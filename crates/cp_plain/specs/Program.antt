@@ -1,6 +1,6 @@
 -- The program that a plain file says: the variables of its clause are numbered by first occurrence, and each `_` is a
 -- new one.
-use Rattle.std.specs.Prelude.{◌≡◌, ℕ, ◌+◌, ◌<◌, ◌≤◌, Bool, true, false, not, ◌&&◌, cond, ℤ, pos, negsuc, List, [], ◌∷◌, ◌++◌, length, All, Option, Some, None, unwrap_or, is_some, codes}
+use Rattle.std.specs.Prelude.{◌≡◌, ℕ, ◌+◌, ◌<◌, ◌≤◌, true, false, cond, pos, negsuc, List, [], ◌∷◌, ◌++◌, length, All, Option, Some, None, unwrap_or, is_some, codes}
 use Rattle.std.specs.Str.{bytes_eq}
 use Rattle.cp_plain.specs.declared.program.Argument.{Argument}
 use Rattle.cp_plain.specs.declared.program.Argument.TheVariants.{Variable, Integer, Atom}

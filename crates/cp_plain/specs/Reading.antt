@@ -1,14 +1,13 @@
 -- What the reader of each part of a plain file promises: what was said and the tokens that are left, or that no tokens
 -- of such a part stand there.
-use Rattle.std.specs.Prelude.{◌≡◌, ℕ, ◌+◌, ◌<◌, ◌≤◌, Bool, true, false, not, ◌&&◌, List, [], ◌∷◌, ◌++◌, length, Option, Some, None, codes, nat_lt, nat_le}
+use Rattle.std.specs.Prelude.{◌≡◌, ℕ, ◌+◌, true, List, ◌∷◌, ◌++◌, length, Option, None, codes, nat_lt, nat_le}
 use Rattle.std.specs.List.{list_all}
-use Rattle.std.specs.Str.{bytes_eq}
 use Rattle.cp_plain.specs.declared.program.Argument.{Argument}
 use Rattle.cp_plain.specs.declared.program.Goal.{Goal}
 use Rattle.cp_plain.specs.declared.program.Goal.TheVariants.{True, Newline, Write, Assert, Retract}
 use Rattle.cp_plain.specs.declared.program.Concurrent.{Concurrent}
-use Rattle.cp_plain.specs.Tokens.{Token, word, neck, comma, close, full_stop}
-use Rattle.cp_plain.specs.Source.{SourceArgument, SourceGoal, argument_token, arguments_tokens, fact_tokens, goal_tokens, goals_tokens, header_tokens, declaration_tokens, clause_tokens, is_operator, is_lawful_argument, is_lawful_fact, is_lawful_goal, is_lawful_predicate, is_lawful_declaration, is_lawful_module, clause_cells}
+use Rattle.cp_plain.specs.Tokens.{Token, word, neck, close, full_stop}
+use Rattle.cp_plain.specs.Source.{SourceArgument, SourceGoal, argument_token, arguments_tokens, fact_tokens, goal_tokens, goals_tokens, header_tokens, declaration_tokens, clause_tokens, is_lawful_argument, is_lawful_fact, is_lawful_goal, is_lawful_declaration, is_lawful_module, clause_cells}
 use Rattle.cp_plain.specs.Program.{Seen, nothing_seen, argument_of, seen_argument, arguments_of, seen_arguments, goal_of, seen_goal, goals_of}
 
 -- an argument

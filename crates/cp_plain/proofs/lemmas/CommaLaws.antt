@@ -1,5 +1,5 @@
 -- What is said between commas.
-use Rattle.std.proofs.Common.{◌≡◌, ℕ, List, [], ◌∷◌, ◌++◌, refl, sym, ◌∙◌, ap, subst, append_assoc}
+use Rattle.std.proofs.Common.{◌≡◌, List, [], ◌∷◌, ◌++◌, refl, sym, ◌∙◌, ap, append_assoc}
 use Rattle.cp_plain.specs.Tokens.{Token, comma}
 use Rattle.cp_plain.specs.Source.{between_commas}
 

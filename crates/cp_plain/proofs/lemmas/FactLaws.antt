@@ -1,17 +1,16 @@
 -- The readers of facts and of goals.
-use Rattle.std.proofs.Common.{◌≡◌, ℕ, Bool, true, false, ◌&&◌, nat_eq, List, [], ◌∷◌, ◌++◌, length, refl, sym, ◌∙◌, ap, subst, true≢false}
-use Rattle.std.specs.Prelude.{Option, Some, None, MatchOption, codes}
+use Rattle.std.proofs.Common.{◌≡◌, ℕ, Bool, true, ◌&&◌, nat_eq, List, [], ◌∷◌, ◌++◌, length, refl, sym, ◌∙◌, ap, true≢false}
+use Rattle.std.specs.Prelude.{Option, Some, codes}
 use Rattle.std.specs.List.{list_all}
 use Rattle.std.specs.Str.{bytes_eq}
 use Rattle.std.proofs.lemmas.Bool.{eq-eqb, eqb-true, and_parts}
 use Rattle.cp_plain.specs.declared.program.Argument.{Argument}
-use Rattle.cp_plain.specs.declared.program.Goal.{Goal}
 use Rattle.cp_plain.specs.declared.program.Goal.TheVariants.{Write, Assert, Retract}
 use Rattle.cp_plain.specs.declared.program.Concurrent.{Concurrent}
 use Rattle.cp_plain.specs.Tokens.{Token, functor, close}
-use Rattle.cp_plain.specs.Source.{SourceArgument, SourceGoal, succeeds, newline, writes, asserts, retracts, argument_token, arguments_tokens, fact_tokens, goal_tokens, is_lawful_argument, is_lawful_fact, is_lawful_goal}
+use Rattle.cp_plain.specs.Source.{SourceArgument, succeeds, newline, writes, asserts, retracts, argument_token, arguments_tokens, fact_tokens, is_lawful_argument, is_lawful_fact}
 use Rattle.cp_plain.specs.Program.{Seen}
-use Rattle.cp_plain.specs.Reading.{ReadsArgument, NoArgument, ReadsArguments, ReadsFact, NoFact, ReadsGoal, NoGoal}
+use Rattle.cp_plain.specs.Reading.{ReadsArgument, ReadsArguments, ReadsFact, NoFact, ReadsGoal, NoGoal}
 use Rattle.cp_plain.proofs.lemmas.GoalLaws.{argument_one, arguments_one, fact-tokens, asserts-tokens, retracts-tokens, goal_apart}
 
 bytes_eq-refl : (text : List ℕ) → bytes_eq text text ≡ true

@@ -1,5 +1,5 @@
 -- The parts of a plain file.
-use Rattle.std.proofs.Common.{◌≡◌, ℕ, List, [], ◌∷◌, ◌++◌, refl, sym, ◌∙◌, ap, subst, append_assoc, true, false, true≢false}
+use Rattle.std.proofs.Common.{◌≡◌, ℕ, List, [], ◌∷◌, ◌++◌, refl, sym, ◌∙◌, ap, append_assoc, true, false, true≢false}
 use Rattle.std.specs.Prelude.{Option, Some, None, Result, Ok, Err, MatchOption, IfOk, is_some, codes}
 use Rattle.cp_plain.specs.declared.token.Token.{Token as ReadToken}
 use Rattle.cp_plain.specs.Lexing.{token_of}
@@ -8,7 +8,7 @@ use Rattle.cp_plain.specs.declared.program.Concurrent.{Concurrent}
 use Rattle.cp_plain.specs.declared.program.Goal.{Goal}
 use Rattle.cp_plain.specs.declared.program.PlainProgram.{PlainProgram}
 use Rattle.cp_plain.specs.Tokens.{Token, word, neck, slash, integer, full_stop, tokens}
-use Rattle.cp_plain.specs.Source.{Source, SourceGoal, succeeds, newline, writes, asserts, retracts, declaration_tokens, header_tokens, clause_tokens, source_tokens, goal_tokens, goals_tokens, is_lawful_goal, IsLawful}
+use Rattle.cp_plain.specs.Source.{Source, SourceGoal, succeeds, newline, writes, asserts, retracts, declaration_tokens, header_tokens, clause_tokens, source_tokens, goal_tokens, goals_tokens, is_lawful_goal}
 use Rattle.cp_plain.specs.Program.{IsPlainFile, IsNoPlainFile}
 use Rattle.cp_plain.specs.Reading.{ReadsHeader, NoHeader, ReadsDeclaration, NoDeclaration, ReadsClause, NoClause, AreLawfulGoals, ReadsGoals, NoGoals}
 use Rattle.cp_plain.proofs.lemmas.CommaLaws.{list_one}

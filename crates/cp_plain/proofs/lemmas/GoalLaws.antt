@@ -1,5 +1,5 @@
 -- Arguments, facts and goals are read in one way.
-use Rattle.std.proofs.Common.{◌≡◌, ℕ, ◌+◌, List, [], ◌∷◌, ◌++◌, refl, sym, ◌∙◌, ap, subst, append_assoc, nat_eq, true, false, true≢false, Bool, ◌&&◌}
+use Rattle.std.proofs.Common.{◌≡◌, ℕ, ◌+◌, List, [], ◌∷◌, ◌++◌, refl, sym, ◌∙◌, ap, append_assoc, nat_eq, false, true≢false}
 use Rattle.std.proofs.lemmas.Bool.{eq-eqb}
 use Rattle.std.specs.Prelude.{codes}
 use Rattle.cp_plain.specs.Tokens.{Token, word, functor, variable, integer, neck, slash, comma, close, open_list, close_list, full_stop, unknown}

@@ -1,14 +1,14 @@
 -- The reader of goals one by one.
-use Rattle.std.proofs.Common.{◌≡◌, ℕ, suc, ◌+◌, ◌-◌, ◌<◌, ◌≤◌, Bool, true, false, ◌&&◌, nat_lt, List, [], ◌∷◌, ◌++◌, length, refl, sym, ◌∙◌, ap, subst, append_assoc, length-append, inl, inr, arith}
-use Rattle.std.specs.Prelude.{Option, Some, None, ◌⊎◌, sum_by, nat_le}
+use Rattle.std.proofs.Common.{◌≡◌, ℕ, ◌+◌, ◌<◌, ◌≤◌, true, nat_lt, List, [], ◌∷◌, ◌++◌, length, refl, sym, ◌∙◌, ap, append_assoc, inl, inr, arith}
+use Rattle.std.specs.Prelude.{Option, ◌⊎◌, sum_by}
 use Rattle.std.specs.List.{list_all}
 use Rattle.std.proofs.lemmas.List.Sums.{sum_by-cons}
 use Rattle.std.proofs.lemmas.Bool.{lt-ltb, ltb-true, leb-true, le-leb}
 use Rattle.cp_plain.specs.declared.program.Goal.{Goal}
 use Rattle.cp_plain.specs.declared.program.Concurrent.{Concurrent}
 use Rattle.cp_plain.specs.Tokens.{Token, comma, full_stop}
-use Rattle.cp_plain.specs.Source.{SourceArgument, SourceGoal, succeeds, newline, writes, asserts, retracts, goal_tokens, goals_tokens, is_lawful_goal, goal_cells, clause_cells}
-use Rattle.cp_plain.specs.Program.{Seen, nothing_seen, arguments_of, goal_of, seen_goal, goals_of, seen_goals}
+use Rattle.cp_plain.specs.Source.{SourceGoal, succeeds, newline, writes, asserts, retracts, goal_tokens, goals_tokens, is_lawful_goal, goal_cells, clause_cells}
+use Rattle.cp_plain.specs.Program.{Seen, nothing_seen, goal_of, seen_goal, goals_of, seen_goals}
 use Rattle.cp_plain.specs.Reading.{ReadsGoal, NoGoal, ReadsGoals, NoGoals, AreLawfulGoals, cells_of}
 use Rattle.cp_plain.proofs.lemmas.CommaLaws.{led, led-push, led-last, Left, left_of}
 use Rattle.cp_plain.proofs.lemmas.GoalLaws.{comma-full_stop, goal_one}

@@ -1,19 +1,15 @@
 -- The readers of arguments and of goals one by one.
-use Rattle.std.proofs.Common.{◌≡◌, ℕ, suc, ◌+◌, ◌-◌, ◌<◌, ◌≤◌, Bool, true, false, ◌&&◌, nat_lt, List, [], ◌∷◌, ◌++◌, length, refl, sym, ◌∙◌, ap, subst, append_assoc, length-append, arith}
-use Rattle.std.specs.Prelude.{Option, Some, None, sum_by, nat_le}
+use Rattle.std.proofs.Common.{◌≡◌, ℕ, suc, ◌+◌, ◌-◌, ◌<◌, Bool, true, ◌&&◌, List, [], ◌∷◌, ◌++◌, length, refl, sym, ◌∙◌, ap, length-append, arith}
 use Rattle.std.specs.List.{list_all}
 use Rattle.std.proofs.lemmas.List.Folds.{list_all-append}
-use Rattle.std.proofs.lemmas.List.Sums.{sum_by-cons}
-use Rattle.std.proofs.lemmas.Bool.{and_parts, lt-ltb, leb-true, le-leb}
+use Rattle.std.proofs.lemmas.Bool.{and_parts}
 use Rattle.cp_plain.specs.declared.program.Argument.{Argument}
-use Rattle.cp_plain.specs.declared.program.Goal.{Goal}
-use Rattle.cp_plain.specs.declared.program.Concurrent.{Concurrent}
-use Rattle.cp_plain.specs.Tokens.{Token, comma, close, full_stop}
-use Rattle.cp_plain.specs.Source.{SourceArgument, SourceGoal, succeeds, newline, writes, asserts, retracts, argument_token, arguments_tokens, goal_tokens, goals_tokens, is_lawful_argument, is_lawful_goal, goal_cells, clause_cells}
-use Rattle.cp_plain.specs.Program.{Seen, nothing_seen, argument_of, seen_argument, arguments_of, seen_arguments, goal_of, seen_goal, goals_of, seen_goals}
-use Rattle.cp_plain.specs.Reading.{ReadsArgument, NoArgument, ReadsArguments, NoArguments, ReadsGoal, NoGoal, ReadsGoals, NoGoals, AreLawfulGoals, cells_of}
+use Rattle.cp_plain.specs.Tokens.{Token, comma, close}
+use Rattle.cp_plain.specs.Source.{SourceArgument, SourceGoal, argument_token, arguments_tokens, is_lawful_argument}
+use Rattle.cp_plain.specs.Program.{Seen, argument_of, seen_argument, arguments_of, seen_arguments, goal_of, seen_goal, goals_of, seen_goals}
+use Rattle.cp_plain.specs.Reading.{ReadsArgument, NoArgument, ReadsArguments, NoArguments}
 use Rattle.cp_plain.proofs.lemmas.CommaLaws.{led, led-push, led-last, Left, left_of}
-use Rattle.cp_plain.proofs.lemmas.GoalLaws.{argument_one, argument_begins, comma-close, comma-full_stop, goal_one}
+use Rattle.cp_plain.proofs.lemmas.GoalLaws.{argument_one, comma-close}
 
 pub list_all-push : {X : Type 0} (p : X → Bool) (xs : List X) (y : X) → list_all p xs ≡ true → p y ≡ true → list_all p (xs ++ y ∷ []) ≡ true
 list_all-push p xs y all last =

@@ -1,17 +1,14 @@
 -- What holds of the program of each plain file.
-use Rattle.std.proofs.Common.{◌≡◌, ℕ, zero, suc, ◌+◌, ◌<◌, ◌≤◌, Bool, true, false, not, cond, ◌&&◌, nat_lt, List, [], ◌∷◌, ◌++◌, length, All, refl, sym, ◌∙◌, ap, subst, inl, inr, true≢false, nat_eq, arith}
+use Rattle.std.proofs.Common.{◌≡◌, ℕ, zero, suc, ◌+◌, ◌<◌, ◌≤◌, Bool, true, false, not, cond, ◌&&◌, List, [], ◌∷◌, ◌++◌, length, All, refl, sym, ◌∙◌, ap, subst, inl, inr, true≢false, nat_eq, arith}
 use Rattle.std.specs.Prelude.{Option, Some, None, ◌⊎◌, unwrap_or, is_some, nat_le, codes}
 use Rattle.std.specs.List.{list_all}
 use Rattle.std.specs.Str.{bytes_eq}
 use Rattle.std.proofs.lemmas.List.Elements.{All-nil, All-cons}
 use Rattle.std.proofs.lemmas.Bool.{and_parts, ltb-true, leb-true, eqb-true}
-use Rattle.cp_plain.specs.declared.program.Argument.{Argument}
-use Rattle.cp_plain.specs.declared.program.Argument.TheVariants.{Variable, Integer, Atom}
-use Rattle.cp_plain.specs.declared.program.Goal.{Goal}
 use Rattle.cp_plain.specs.declared.program.Concurrent.{Concurrent}
 use Rattle.cp_plain.specs.declared.program.PlainProgram.{PlainProgram}
-use Rattle.cp_plain.specs.Tokens.{Token, comma, close, full_stop, first_token, after_layout, tokens_within, tokens, TokenAndRest, IsToken, IsSmallLetterName}
-use Rattle.cp_plain.specs.Source.{SourceArgument, named, number, atom, SourceGoal, succeeds, newline, writes, asserts, retracts, Source, argument_token, arguments_tokens, between_commas, goal_tokens, goals_tokens, header_tokens, declaration_tokens, clause_tokens, source_tokens, is_operator, is_lawful_argument, is_lawful_fact, is_lawful_goal, is_lawful_declaration, is_lawful_predicate, is_builtin, goal_cells, clause_cells, IsLawful}
+use Rattle.cp_plain.specs.Tokens.{Token, comma, close, full_stop, first_token, after_layout, tokens_within, tokens, IsToken}
+use Rattle.cp_plain.specs.Source.{SourceArgument, named, number, atom, SourceGoal, succeeds, newline, writes, asserts, retracts, Source, argument_token, arguments_tokens, goal_tokens, goals_tokens, header_tokens, declaration_tokens, clause_tokens, source_tokens, is_operator, is_lawful_argument, is_lawful_fact, is_lawful_goal, is_lawful_declaration, is_lawful_predicate, is_builtin, goal_cells, clause_cells, IsLawful}
 use Rattle.cp_plain.specs.Program.{Seen, nothing_seen, number_in, number_of, seen_with, with_new, with_nameless, argument_of, seen_argument, arguments_of, seen_arguments, goal_of, seen_goal, goals_of, program_of, IsPlainFile, IsWellFormed, IsWellFormedArgument, IsWellFormedFact, IsWellFormedGoal, IsWellFormedConcurrent}
 use Rattle.cp_plain.proofs.lemmas.LexerLaws.{first_token-IsToken}
 use Rattle.cp_plain.proofs.lemmas.LoopLaws.{length-arguments_of}

@@ -1,4 +1,4 @@
-use Rattle.std.proofs.Common.{◌≡◌, not, w64, refl, sym, ◌∙◌, ap}
+use Rattle.std.proofs.Common.{not, w64, refl, sym, ◌∙◌, ap}
 use Rattle.std.proofs.lemmas.Int.{to_z_pos}
 use Rattle.cp_plain.specs.declared.program.Argument.TheVariants.{Variable, Integer, Atom}
 use Rattle.cp_plain.specs.Source.{named, number, atom}

@@ -1,4 +1,4 @@
-use Rattle.std.proofs.Common.{◌≡◌, ◌<◌, List, [], ◌∷◌, ◌++◌, length, sym, ◌∙◌, ap, subst}
+use Rattle.std.proofs.Common.{List, length, sym, ◌∙◌, ap, subst}
 use Rattle.cp_plain.specs.declared.program.Argument.{Argument}
 use Rattle.cp_plain.specs.Reading.{ReadsArguments}
 use Rattle.cp_plain.proofs.lemmas.LoopLaws.{ArgumentsRead, arguments-none, arguments-step, arguments-end, arguments-open, arguments-apart, arguments-more, arguments-smaller}

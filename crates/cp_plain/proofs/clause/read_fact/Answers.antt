@@ -1,4 +1,3 @@
-use Rattle.std.proofs.Common.{◌≡◌}
 use Rattle.cp_plain.proofs.lemmas.FactLaws.{fact-read, fact-open}
 use Rattle.cp_plain.proofs.clause.read_fact.Goals as goal
 

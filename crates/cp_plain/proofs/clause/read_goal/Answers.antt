@@ -1,6 +1,6 @@
-use Rattle.std.proofs.Common.{◌≡◌, List, ◌∷◌, ◌∙◌, ap, subst}
+use Rattle.std.proofs.Common.{List, subst}
 use Rattle.std.specs.Prelude.{codes, IfOk, MatchOption}
-use Rattle.cp_plain.specs.Tokens.{Token, functor}
+use Rattle.cp_plain.specs.Tokens.{Token}
 use Rattle.cp_plain.specs.Reading.{ReadsGoal, NoGoal}
 use Rattle.cp_plain.proofs.lemmas.FactLaws.{called}
 use Rattle.cp_plain.proofs.clause.read_goal.Goals as goal

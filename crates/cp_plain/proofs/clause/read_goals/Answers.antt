@@ -1,4 +1,4 @@
-use Rattle.std.proofs.Common.{◌≡◌, ℕ, ◌+◌, ◌<◌, ◌≤◌, List, [], ◌∷◌, ◌++◌, sym, ◌∙◌, ap, subst, arith}
+use Rattle.std.proofs.Common.{ℕ, ◌+◌, List, sym, ◌∙◌, subst, arith}
 use Rattle.cp_plain.specs.declared.program.Goal.{Goal}
 use Rattle.cp_plain.specs.Reading.{ReadsGoals, cells_of}
 use Rattle.cp_plain.proofs.lemmas.GoalLoopLaws.{GoalsRead, goals-none, goals-step, goals-end, goals-too_many, goals-no_end}

@@ -1,4 +1,4 @@
-use Rattle.std.proofs.Common.{◌≡◌, ◌∷◌, refl}
+use Rattle.std.proofs.Common.{◌∷◌, refl}
 use Rattle.std.specs.Prelude.{codes}
 use Rattle.cp_plain.specs.Tokens.{functor}
 use Rattle.cp_plain.proofs.lemmas.FactLaws.{retracts-read, retracts-none}

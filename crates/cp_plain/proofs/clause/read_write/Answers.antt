@@ -1,4 +1,4 @@
-use Rattle.std.proofs.Common.{◌≡◌, ◌∷◌, refl}
+use Rattle.std.proofs.Common.{◌∷◌, refl}
 use Rattle.std.specs.Prelude.{codes}
 use Rattle.cp_plain.specs.Tokens.{functor, close}
 use Rattle.cp_plain.proofs.lemmas.FactLaws.{writes-read, writes-none, writes-open}

@@ -1,4 +1,4 @@
-use Rattle.std.proofs.Common.{◌≡◌, ℕ, map, sym, ap}
+use Rattle.std.proofs.Common.{ℕ, map, sym, ap}
 use Rattle.std.specs.Prelude.{codes}
 use Rattle.cp_plain.specs.Source.{builtins_of}
 use Rattle.cp_plain.proofs.lemmas.NameLaws.{builtins-none}

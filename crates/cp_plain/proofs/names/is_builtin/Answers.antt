@@ -1,4 +1,4 @@
-use Rattle.std.proofs.Common.{◌≡◌, true, false, ◌||◌, sym, ap, ◌∙◌}
+use Rattle.std.proofs.Common.{◌||◌, sym, ap, ◌∙◌}
 use Rattle.cp_plain.specs.Source.{is_builtin, is_among, builtins_of}
 use Rattle.cp_plain.proofs.lemmas.NameLaws.{is_builtin-now}
 use Rattle.cp_plain.proofs.names.is_builtin.Goals as goal

@@ -1,4 +1,3 @@
-use Rattle.std.proofs.Common.{◌≡◌}
 use Rattle.cp_plain.specs.Source.{is_operator}
 use Rattle.cp_plain.proofs.names.is_operator.Goals as goal
 

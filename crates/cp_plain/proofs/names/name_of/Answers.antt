@@ -1,4 +1,4 @@
-use Rattle.std.proofs.Common.{◌≡◌, ◌∙◌, ap}
+use Rattle.std.proofs.Common.{◌∙◌, ap}
 use Rattle.std.specs.Prelude.{Err}
 use Rattle.cp_term.specs.declared.name.NameError.{NameError}
 use Rattle.cp_plain.proofs.lemmas.NameLaws.{small-IsUtf8}

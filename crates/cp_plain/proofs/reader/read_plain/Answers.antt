@@ -1,7 +1,6 @@
-use Rattle.std.proofs.Common.{◌≡◌, List, sym, ◌∙◌, ap, subst}
-use Rattle.cp_plain.specs.Tokens.{Token, tokens}
+use Rattle.std.proofs.Common.{List, sym, ◌∙◌, subst}
+use Rattle.cp_plain.specs.Tokens.{Token}
 use Rattle.cp_plain.specs.Reading.{ReadsHeader}
-use Rattle.cp_plain.specs.Program.{IsPlainFile}
 use Rattle.cp_plain.proofs.lemmas.FileLaws.{no_declaration, no_clause, not_finished, finished, next-none, next-some}
 use Rattle.cp_plain.proofs.lemmas.WellFormedLaws.{plain-well_formed}
 use Rattle.cp_plain.proofs.reader.read_plain.Goals as goal

@@ -1,7 +1,7 @@
-use Rattle.std.proofs.Common.{◌≡◌, List, [], sym, ◌∙◌, ap, subst}
-use Rattle.std.specs.Prelude.{Option, Some, None}
+use Rattle.std.proofs.Common.{◌≡◌, [], sym, ◌∙◌, ap}
+use Rattle.std.specs.Prelude.{Some, None}
 use Rattle.cp_plain.specs.Lexing.{token_of, first_of}
-use Rattle.cp_plain.specs.Tokens.{tokens, after_layout, first_token}
+use Rattle.cp_plain.specs.Tokens.{after_layout, first_token}
 use Rattle.cp_plain.proofs.lemmas.LexerLaws.{tokens-none, tokens-some, first_token-IsToken}
 use Rattle.cp_plain.proofs.lexer.Lexer.next.Goals as goal
 
