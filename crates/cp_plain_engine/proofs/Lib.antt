@@ -6,3 +6,4 @@ pub mod Results
 pub mod Asking
 pub mod Renaming
 pub mod Seeing
+pub mod Declared

@@ -70,9 +70,8 @@ pub struct PlainMachine {
 impl PlainMachine {
     /// A machine for this program, which runs nothing before it is started: until then it has failed.
     pub fn new(alloc: Global, program: PlainProgram, steps: u32) -> PlainMachine
-        ensures program { result.program ≡ program }
-        ensures steps { result.steps ≡ steps }
-        ensures failed { result.failed ≡ true }
+        ensures code { ⟦<PlainMachine as Machine>⟧.code result ≡ record { program = program; steps = steps } }
+        ensures failed { ⟦<PlainMachine as Machine>⟧.failed result ≡ true }
     {
         PlainMachine {
             alloc,

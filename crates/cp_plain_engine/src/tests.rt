@@ -63,18 +63,18 @@ fn main_goal(alloc: Global) -> Result<Term, Fail> {
     Ok(Term::from_cells(cells)?)
 }
 
-fn adds(next: &Next, fact: &Term) -> bool {
-    match next {
+fn adds(next: Next, fact: Term) -> bool {
+    match &next {
         Next::Ask {
             object: 2,
             call: Call::AddBack { fact: added },
-        } => added.equal(fact),
+        } => added.equal(&fact),
         _ => false,
     }
 }
 
-fn takes(next: &Next, size: u32) -> bool {
-    match next {
+fn takes(next: Next, size: u32) -> bool {
+    match &next {
         Next::Ask {
             object: 2,
             call: Call::Take {
@@ -86,8 +86,8 @@ fn takes(next: &Next, size: u32) -> bool {
     }
 }
 
-fn puts(next: &Next, text: &[u8]) -> bool {
-    match next {
+fn puts(next: Next, text: &[u8]) -> bool {
+    match &next {
         Next::Put { bytes } => bytes.as_slice() == text,
         _ => false,
     }
@@ -125,18 +125,34 @@ fn a_machine_starts_and_stops(rt: HostRuntime) -> Result<(), Fail> {
     Ok(())
 }
 
+/// A run is begun, its fact is added, and the next call takes a fact of the same size.
+fn is_added(
+    alloc: Global,
+    program: &PlainProgram,
+    run: &mut Run,
+    fact: Term,
+    size: u32,
+) -> Result<bool, Fail> {
+    let begins = adds(begin(alloc, program, 100, run)?, fact);
+    let next = go_on(alloc, program, run, added(alloc))?;
+    Ok(begins && takes(next, size))
+}
+
 #[test]
 fn a_fact_is_added_taken_and_written(rt: HostRuntime) -> Result<(), Fail> {
     let alloc = rt.alloc();
     let program = program(alloc, 1, first_goals(alloc)?)?;
     let mut run = Run::idle(alloc);
-    assert!(rt; adds(&begin(alloc, &program, 100, &mut run)?, &q_one(alloc)?));
-    assert!(rt; takes(&go_on(alloc, &program, &mut run, added(alloc))?, 2));
-    let next = go_on(alloc, &program, &mut run, found(q_one(alloc)?))?;
-    assert!(rt; puts(&next, b"1"));
+    assert!(rt; is_added(alloc, &program, &mut run, q_one(alloc)?, 2)?);
     assert!(rt;
         puts(
-            &go_on(alloc, &program, &mut run, Input::Put(PutReply::Wrote))?,
+            go_on(alloc, &program, &mut run, found(q_one(alloc)?))?,
+            b"1"
+        )
+    );
+    assert!(rt;
+        puts(
+            go_on(alloc, &program, &mut run, Input::Put(PutReply::Wrote))?,
             b"\n"
         )
     );
@@ -162,11 +178,10 @@ fn variables_of_a_fact_stay_the_same(rt: HostRuntime) -> Result<(), Fail> {
     let alloc = rt.alloc();
     let program = program(alloc, 2, aliased_goals(alloc)?)?;
     let mut run = Run::idle(alloc);
-    assert!(rt; adds(&begin(alloc, &program, 100, &mut run)?, &q_twice(alloc)?));
-    assert!(rt; takes(&go_on(alloc, &program, &mut run, added(alloc))?, 3));
+    assert!(rt; is_added(alloc, &program, &mut run, q_twice(alloc)?, 3)?);
     let next = go_on(alloc, &program, &mut run, found(q_twice(alloc)?))?;
-    assert!(rt; adds(&next, &q_twice(alloc)?));
-    assert!(rt; puts(&go_on(alloc, &program, &mut run, added(alloc))?, b"_0"));
+    assert!(rt; adds(next, q_twice(alloc)?));
+    assert!(rt; puts(go_on(alloc, &program, &mut run, added(alloc))?, b"_0"));
     let next = go_on(alloc, &program, &mut run, Input::Put(PutReply::Failed))?;
     assert!(rt; matches!(next, Next::End { how: How::Ball(_) }));
     Ok(())
