@@ -1,0 +1,3 @@
+pub mod Asking
+pub mod Advancing
+pub mod Replying
