@@ -4,8 +4,15 @@
 
 mod advance;
 mod ask;
+mod ask_goal;
+mod drive;
+mod end_goal;
+mod look;
+mod put_goal;
 mod stage;
 mod turn;
 
+pub use ask::ItemRoom;
+pub use drive::make_event;
 pub use stage::Stage;
 pub use turn::Turn;

@@ -1,5 +1,5 @@
 ghost use Rattle.std.specs.Prelude.{◌≡◌, IfOk, OnOk, [], ◌∷◌, ◌++◌, codes};
-ghost use Rattle.cp_term.specs.declared.cell.Cell.TheVariants.{Atom, Func};
+ghost use Rattle.cp_term.specs.declared.cell.Cell.TheVariants.{Var, Atom, Func};
 ghost use Rattle.cp_call.specs.Life.{how_term, ended_fact};
 ghost use Rattle.cp_shell.specs.Stage.{stage_with};
 
@@ -111,4 +111,13 @@ pub(crate) fn stage_of(alloc: Global, number: i64, next: Next) -> Result<Stage, 
             request: Next::Remote { call },
         }),
     }
+}
+
+/// A variable as a term: the pattern that every fact fits.
+pub(crate) fn any_term(alloc: Global) -> Result<Term, AllocError>
+    ensures { IfOk result (λ term. term ≡ Var 0 ∷ []) }
+{
+    let mut cells = Cells::new(alloc);
+    cells.push(Cell::Var(0))?;
+    term_of(cells)
 }

@@ -32,7 +32,8 @@ fn is_parked(reply: &Reply) -> bool
     matches!(reply, Reply::Parked)
 }
 
-fn forget(_call: Call) {}
+/// Lets a call go.
+pub(crate) fn forget(_call: Call) {}
 
 /// Begins the goal that was found, if one was.
 fn found<M: Machine>(
