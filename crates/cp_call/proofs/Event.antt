@@ -14,11 +14,7 @@ use Rattle.cp_call.specs.declared.outcome.OutEntry.{OutEntry}
 use Rattle.cp_list.specs.Lists.{IsPrefix}
 use Rattle.cp_call.specs.Asker.{entry_added, IsFullBy}
 use Rattle.cp_call.specs.Sound.{Object, own_entries, entry_unless_full, asked_entries, wrote_entries, IsRight, IsRightEvent, RightRefusals, AgreeOn, AgreeFrom, is_of_objects, Agrees}
-use Rattle.cp_call.proofs.Growing.{AgreeOn-push, RightRefusals-longer, wrote_entries-append}
-
-append_nil : {X : Type 0} (xs : List X) → xs ++ [] ≡ xs
-append_nil [] = refl
-append_nil (x ∷ xs) = ap (λ r. x ∷ r) (append_nil xs)
+use Rattle.cp_call.proofs.Growing.{append_nil, AgreeOn-push, RightRefusals-longer, wrote_entries-append}
 
 suc_shift : (p k : ℕ) → (p + 1) + k ≡ p + suc k
 suc_shift p k = omega arith

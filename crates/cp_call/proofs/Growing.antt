@@ -18,13 +18,13 @@ pub append_nil : {X : Type 0} (xs : List X) → xs ++ [] ≡ xs
 append_nil [] = refl
 append_nil (x ∷ xs) = ap (λ r. x ∷ r) (append_nil xs)
 
-pub goes_on-append : (s : State) (xs ys : List Entry) → state_from s (xs ++ ys) ≡ state_from (state_from s xs) ys
-goes_on-append s [] ys = refl
-goes_on-append s (x ∷ xs) ys = goes_on-append (step s x.caller x.call).state xs ys
+pub state_from-append : (s : State) (xs ys : List Entry) → state_from s (xs ++ ys) ≡ state_from (state_from s xs) ys
+state_from-append s [] ys = refl
+state_from-append s (x ∷ xs) ys = state_from-append (step s x.caller x.call).state xs ys
 
 -- the state after one entry more is a step further
 pub state_after-push : (k : ObjectKind) (o : List (List Cell)) (history : List Entry) (e : Entry) → state_after k o (history ++ e ∷ []) ≡ (step (state_after k o history) e.caller e.call).state
-state_after-push k o history e = goes_on-append (opening_state k o) history (e ∷ [])
+state_after-push k o history e = state_from-append (opening_state k o) history (e ∷ [])
 
 -- one more entry that may follow keeps a history legal
 pub LegalAfter-push : (k : ObjectKind) (o : List (List Cell)) (before history : List Entry) (e : Entry) → LegalAfter k o before history → MayFollow k o (before ++ history) e → LegalAfter k o before (history ++ e ∷ [])
@@ -44,25 +44,25 @@ IsLifeFrom-push rule s (x ∷ xs) i h r = (h.0, IsLifeFrom-push rule (life.stage
 pub IsWorkersLife-push : (rule : life.Rule) (items : List Item) (i : Item) → life.IsWorkersLife rule items → life.IsRequest (life.pending_request rule items) i → life.IsWorkersLife rule (items ++ i ∷ [])
 IsWorkersLife-push rule items i h r = IsLifeFrom-push rule life.Idle items i h r
 
-kept-append : (n : ℕ) (c : Call) (r : Reply) (xs ys : List Entry) → entry_unless_full n c r (xs ++ ys) ≡ entry_unless_full n c r xs ++ ys
-kept-append n c (reply.Added place woken) xs ys = refl
-kept-append n c (reply.Found place fact) xs ys = refl
-kept-append n c reply.NoMore xs ys = refl
-kept-append n c reply.Parked xs ys = refl
-kept-append n c (reply.Purged count) xs ys = refl
-kept-append n c (reply.Replaced place woken) xs ys = refl
-kept-append n c (reply.Closed woken) xs ys = refl
-kept-append n c reply.Reopened xs ys = refl
-kept-append n c reply.Left xs ys = refl
-kept-append n c reply.NotParked xs ys = refl
-kept-append n c (reply.Full by count) xs ys = refl
+entry_unless_full-append : (n : ℕ) (c : Call) (r : Reply) (xs ys : List Entry) → entry_unless_full n c r (xs ++ ys) ≡ entry_unless_full n c r xs ++ ys
+entry_unless_full-append n c (reply.Added place woken) xs ys = refl
+entry_unless_full-append n c (reply.Found place fact) xs ys = refl
+entry_unless_full-append n c reply.NoMore xs ys = refl
+entry_unless_full-append n c reply.Parked xs ys = refl
+entry_unless_full-append n c (reply.Purged count) xs ys = refl
+entry_unless_full-append n c (reply.Replaced place woken) xs ys = refl
+entry_unless_full-append n c (reply.Closed woken) xs ys = refl
+entry_unless_full-append n c reply.Reopened xs ys = refl
+entry_unless_full-append n c reply.Left xs ys = refl
+entry_unless_full-append n c reply.NotParked xs ys = refl
+entry_unless_full-append n c (reply.Full by count) xs ys = refl
 
 pub asked_entries-append : (n p : ℕ) (xs ys : List Item) → asked_entries n p (xs ++ ys) ≡ asked_entries n p xs ++ asked_entries n p ys
 asked_entries-append n p [] ys = refl
 asked_entries-append n p (item.Asked object c r ∷ xs) ys = elim (object == p) as (λ b.
     cond b (entry_unless_full n c r (asked_entries n p (xs ++ ys))) (asked_entries n p (xs ++ ys))
     ≡ cond b (entry_unless_full n c r (asked_entries n p xs)) (asked_entries n p xs) ++ asked_entries n p ys) [
-      | true ↦ ap (entry_unless_full n c r) (asked_entries-append n p xs ys) ∙ kept-append n c r (asked_entries n p xs) (asked_entries n p ys)
+      | true ↦ ap (entry_unless_full n c r) (asked_entries-append n p xs ys) ∙ entry_unless_full-append n c r (asked_entries n p xs) (asked_entries n p ys)
       | false ↦ asked_entries-append n p xs ys
     ]
 asked_entries-append n p (item.Wrote bytes r ∷ xs) ys = asked_entries-append n p xs ys

@@ -10,3 +10,4 @@ pub mod Taking
 pub mod Resting
 pub mod Adding
 pub mod Running
+pub mod Going

@@ -1,5 +1,5 @@
 -- Who is parked: only a caller whose own last entry was replied Parked.
-use Rattle.std.proofs.Common.{◌≡◌, inl, inr, ℕ, ◌==◌, List, [], ◌∷◌, ◌++◌, refl, sym, ◌∙◌, subst, true, false, Bool, not, ◌&&◌, ◌||◌, cond, filter, Option, Some, None, append_assoc}
+use Rattle.std.proofs.Common.{◌≡◌, inl, inr, ℕ, ◌==◌, List, [], ◌∷◌, ◌++◌, refl, sym, ◌∙◌, ap, subst, true, false, Bool, not, ◌&&◌, ◌||◌, cond, filter, Option, Some, None, append_assoc}
 use Rattle.std.specs.Prelude.{ℤ}
 use Rattle.std.specs.List.{list_any}
 use Rattle.std.proofs.lemmas.Bool.Decides.{eqb_tells}
@@ -10,6 +10,7 @@ use Rattle.cp_call.specs.declared.call.Call.TheVariants as call
 use Rattle.cp_call.specs.declared.call.Reply.{Reply}
 use Rattle.cp_call.specs.declared.call.Reply.TheVariants as reply
 use Rattle.cp_call.specs.declared.call.Entry.{Entry}
+use Rattle.cp_call.specs.declared.call.FullBy.{FullBy}
 use Rattle.cp_call.specs.declared.outcome.FactRow.{FactRow}
 use Rattle.cp_call.specs.declared.outcome.ParkedRow.{ParkedRow}
 use Rattle.cp_call.specs.Object.{State, step, is_parked, finds, finds_nothing, removes, closes, reopens, leaves, can_park, suspends, first_seen}
@@ -20,42 +21,51 @@ use Rattle.std.proofs.lemmas.List.Elements.{filter-append}
 use Rattle.cp_call.proofs.Growing.{state_after-push, append_nil}
 
 -- a step is never a refusal for want of room, so its entry is kept
-kept_nothing : (n : ℕ) (c : Call) (s : State) (m : ℕ) (pattern : List Cell) (after : Option ℤ) (waits : Bool) → entry_unless_full n c (finds_nothing s m pattern after waits).reply [] ≡ record { caller = n; call = c; reply = (finds_nothing s m pattern after waits).reply } ∷ []
-kept_nothing n c s m pattern after true = refl
-kept_nothing n c s m pattern after false = refl
+kept_after_nothing : (n : ℕ) (c : Call) (s : State) (m : ℕ) (pattern : List Cell) (after : Option ℤ) (waits : Bool) → entry_unless_full n c (finds_nothing s m pattern after waits).reply [] ≡ record { caller = n; call = c; reply = (finds_nothing s m pattern after waits).reply } ∷ []
+kept_after_nothing n c s m pattern after true = refl
+kept_after_nothing n c s m pattern after false = refl
 
-kept_finds : (n : ℕ) (c : Call) (s : State) (m : ℕ) (pattern : List Cell) (after : Option ℤ) (waits : Bool) (f : Option FactRow) → entry_unless_full n c (finds s m pattern after waits f).reply [] ≡ record { caller = n; call = c; reply = (finds s m pattern after waits f).reply } ∷ []
-kept_finds n c s m pattern after waits None = kept_nothing n c s m pattern after waits
-kept_finds n c s m pattern after waits (Some f) = refl
+kept_after_look : (n : ℕ) (c : Call) (s : State) (m : ℕ) (pattern : List Cell) (after : Option ℤ) (waits : Bool) (f : Option FactRow) → entry_unless_full n c (finds s m pattern after waits f).reply [] ≡ record { caller = n; call = c; reply = (finds s m pattern after waits f).reply } ∷ []
+kept_after_look n c s m pattern after waits None = kept_after_nothing n c s m pattern after waits
+kept_after_look n c s m pattern after waits (Some f) = refl
 
-kept_removes : (n : ℕ) (c : Call) (s : State) (m : ℕ) (pattern : List Cell) (after : Option ℤ) (waits : Bool) (f : Option FactRow) → entry_unless_full n c (removes s m pattern after waits f).reply [] ≡ record { caller = n; call = c; reply = (removes s m pattern after waits f).reply } ∷ []
-kept_removes n c s m pattern after waits None = kept_nothing n c s m pattern after waits
-kept_removes n c s m pattern after waits (Some f) = refl
+kept_after_take : (n : ℕ) (c : Call) (s : State) (m : ℕ) (pattern : List Cell) (after : Option ℤ) (waits : Bool) (f : Option FactRow) → entry_unless_full n c (removes s m pattern after waits f).reply [] ≡ record { caller = n; call = c; reply = (removes s m pattern after waits f).reply } ∷ []
+kept_after_take n c s m pattern after waits None = kept_after_nothing n c s m pattern after waits
+kept_after_take n c s m pattern after waits (Some f) = refl
 
-kept_closes : (n : ℕ) (c : Call) (s : State) (b : Bool) → entry_unless_full n c (closes s b).reply [] ≡ record { caller = n; call = c; reply = (closes s b).reply } ∷ []
-kept_closes n c s true = refl
-kept_closes n c s false = refl
+kept_after_close : (n : ℕ) (c : Call) (s : State) (b : Bool) → entry_unless_full n c (closes s b).reply [] ≡ record { caller = n; call = c; reply = (closes s b).reply } ∷ []
+kept_after_close n c s true = refl
+kept_after_close n c s false = refl
 
-kept_reopens : (n : ℕ) (c : Call) (s : State) (b : Bool) → entry_unless_full n c (reopens s b).reply [] ≡ record { caller = n; call = c; reply = (reopens s b).reply } ∷ []
-kept_reopens n c s true = refl
-kept_reopens n c s false = refl
+kept_after_reopen : (n : ℕ) (c : Call) (s : State) (b : Bool) → entry_unless_full n c (reopens s b).reply [] ≡ record { caller = n; call = c; reply = (reopens s b).reply } ∷ []
+kept_after_reopen n c s true = refl
+kept_after_reopen n c s false = refl
 
-kept_leaves : (n : ℕ) (c : Call) (s : State) (m : ℕ) (b : Bool) → entry_unless_full n c (leaves s m b).reply [] ≡ record { caller = n; call = c; reply = (leaves s m b).reply } ∷ []
-kept_leaves n c s m true = refl
-kept_leaves n c s m false = refl
+kept_after_leave : (n : ℕ) (c : Call) (s : State) (m : ℕ) (b : Bool) → entry_unless_full n c (leaves s m b).reply [] ≡ record { caller = n; call = c; reply = (leaves s m b).reply } ∷ []
+kept_after_leave n c s m true = refl
+kept_after_leave n c s m false = refl
 
-pub kept-step : (n : ℕ) (c : Call) (s : State) (m : ℕ) (k : Call) → entry_unless_full n c (step s m k).reply [] ≡ record { caller = n; call = c; reply = (step s m k).reply } ∷ []
-kept-step n c s m (call.AddFront fact) = refl
-kept-step n c s m (call.AddBack fact) = refl
-kept-step n c s m (call.Next pattern after) = kept_finds n c s m pattern after (can_park s) (first_seen s.facts pattern after)
-kept-step n c s m (call.Take pattern after) = kept_removes n c s m pattern after (can_park s) (first_seen s.facts pattern after)
-kept-step n c s m (call.NextNb pattern after) = kept_finds n c s m pattern after false (first_seen s.facts pattern after)
-kept-step n c s m (call.TakeNb pattern after) = kept_removes n c s m pattern after false (first_seen s.facts pattern after)
-kept-step n c s m (call.Purge pattern) = refl
-kept-step n c s m (call.Replace fact) = refl
-kept-step n c s m call.Close = kept_closes n c s (suspends s.kind)
-kept-step n c s m call.Reopen = kept_reopens n c s (suspends s.kind)
-kept-step n c s m call.Leave = kept_leaves n c s m (is_parked s m)
+pub entry_unless_full-step : (n : ℕ) (c : Call) (s : State) (m : ℕ) (k : Call) → entry_unless_full n c (step s m k).reply [] ≡ record { caller = n; call = c; reply = (step s m k).reply } ∷ []
+entry_unless_full-step n c s m (call.AddFront fact) = refl
+entry_unless_full-step n c s m (call.AddBack fact) = refl
+entry_unless_full-step n c s m (call.Next pattern after) = kept_after_look n c s m pattern after (can_park s) (first_seen s.facts pattern after)
+entry_unless_full-step n c s m (call.Take pattern after) = kept_after_take n c s m pattern after (can_park s) (first_seen s.facts pattern after)
+entry_unless_full-step n c s m (call.NextNb pattern after) = kept_after_look n c s m pattern after false (first_seen s.facts pattern after)
+entry_unless_full-step n c s m (call.TakeNb pattern after) = kept_after_take n c s m pattern after false (first_seen s.facts pattern after)
+entry_unless_full-step n c s m (call.Purge pattern) = refl
+entry_unless_full-step n c s m (call.Replace fact) = refl
+entry_unless_full-step n c s m call.Close = kept_after_close n c s (suspends s.kind)
+entry_unless_full-step n c s m call.Reopen = kept_after_reopen n c s (suspends s.kind)
+entry_unless_full-step n c s m call.Leave = kept_after_leave n c s m (is_parked s m)
+
+cons_nil : (e : Entry) (es : List Entry) → [] ≡ e ∷ es → ⊥
+cons_nil e es h = cc
+
+-- an object never replies that there is no room
+pub step-not_full : (s : State) (m : ℕ) (c : Call) (by : FullBy) (count : ℕ) → (step s m c).reply ≡ reply.Full by count → ⊥
+step-not_full s m c by count h =
+    let kept : entry_unless_full m c (step s m c).reply [] ≡ record { caller = m; call = c; reply = (step s m c).reply } ∷ [] = entry_unless_full-step m c s m c in
+    cons_nil (record { caller = m; call = c; reply = (step s m c).reply }) [] (sym (ap (λ r. entry_unless_full m c r []) h) ∙ kept)
 
 or_mono : (b r r' : Bool) → (r ≡ true → r' ≡ true) → b || r ≡ true → b || r' ≡ true
 or_mono true r r' k h = refl

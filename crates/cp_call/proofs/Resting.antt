@@ -1,5 +1,5 @@
 -- A worker that still waits rests: its last event is the call that was replied Parked.
-use Rattle.std.proofs.Common.{◌≡◌, ◌≢◌, ◌⊎◌, inl, inr, ℕ, ◌==◌, List, [], ◌∷◌, ◌++◌, refl, sym, ◌∙◌, ap, subst, true, false, Bool, cond, filter, append_assoc, Option, Some, None}
+use Rattle.std.proofs.Common.{◌≡◌, ◌⊎◌, inl, inr, ℕ, ◌==◌, List, [], ◌∷◌, ◌++◌, refl, sym, ◌∙◌, ap, subst, true, false, Bool, append_assoc}
 use Rattle.std.specs.Prelude.{MatchBool}
 use Rattle.std.proofs.lemmas.Bool.Decides.{eqb_tells}
 use Rattle.std.proofs.lemmas.List.Elements.{filter-append}
@@ -12,13 +12,12 @@ use Rattle.cp_call.specs.declared.call.FullBy.{FullBy}
 use Rattle.cp_call.specs.declared.call.Entry.{Entry}
 use Rattle.cp_call.specs.declared.item.Item.{Item}
 use Rattle.cp_call.specs.declared.item.Item.TheVariants as item
-use Rattle.cp_call.specs.declared.item.Next.{Next}
 use Rattle.cp_call.specs.declared.item.Next.TheVariants as next
-use Rattle.cp_call.specs.Object.{State, is_parked, step}
-use Rattle.cp_call.specs.History.{state_after, Limit}
+use Rattle.cp_call.specs.Object.{State, is_parked}
+use Rattle.cp_call.specs.History.{state_after}
 use Rattle.cp_call.specs.Life as life
-use Rattle.cp_call.specs.Sound.{Object, own_entries, entry_unless_full, asked_entries, WasFull, IsRight, IsRightEvent, RightRefusals, AgreeOn, EndsParkedOn}
-use Rattle.cp_call.specs.Asker.{IsWaiting, EndsParked}
+use Rattle.cp_call.specs.Sound.{Object, own_entries, entry_unless_full, asked_entries, WasFull, IsRightEvent, RightRefusals, AgreeOn, EndsParkedOn}
+use Rattle.cp_call.specs.Asker.{IsWaiting}
 use Rattle.cp_call.proofs.Growing.{state_after-push, append_nil, asked_entries-append}
 use Rattle.cp_call.proofs.Parking.{others-step}
 
@@ -39,18 +38,18 @@ others_stay k o seen (e ∷ es) n own h =
     let next : is_parked (state_after k o (seen ++ e ∷ [])) n ≡ true = others_stay k o (seen ++ e ∷ []) es n head.1 (subst (λ b. is_parked (state_after k o b) n ≡ true) (sym (append_assoc seen (e ∷ []) es)) h) in
     others-step (state_after k o seen) e.caller n e.call head.0 (subst (λ (s : State). is_parked s n ≡ true) (state_after-push k o seen e) next)
 
-kept_cases : (n : ℕ) (c : Call) (r : Reply) (xs : List Entry) → (entry_unless_full n c r xs ≡ record { caller = n; call = c; reply = r } ∷ xs) ⊎ ((by : FullBy) × (count : ℕ) × (r ≡ reply.Full by count))
-kept_cases n c (reply.Added place woken) xs = inl refl
-kept_cases n c (reply.Found place fact) xs = inl refl
-kept_cases n c reply.NoMore xs = inl refl
-kept_cases n c reply.Parked xs = inl refl
-kept_cases n c (reply.Purged count) xs = inl refl
-kept_cases n c (reply.Replaced place woken) xs = inl refl
-kept_cases n c (reply.Closed woken) xs = inl refl
-kept_cases n c reply.Reopened xs = inl refl
-kept_cases n c reply.Left xs = inl refl
-kept_cases n c reply.NotParked xs = inl refl
-kept_cases n c (reply.Full by count) xs = inr (by, count, refl)
+entry_cases : (n : ℕ) (c : Call) (r : Reply) (xs : List Entry) → (entry_unless_full n c r xs ≡ record { caller = n; call = c; reply = r } ∷ xs) ⊎ ((by : FullBy) × (count : ℕ) × (r ≡ reply.Full by count))
+entry_cases n c (reply.Added place woken) xs = inl refl
+entry_cases n c (reply.Found place fact) xs = inl refl
+entry_cases n c reply.NoMore xs = inl refl
+entry_cases n c reply.Parked xs = inl refl
+entry_cases n c (reply.Purged count) xs = inl refl
+entry_cases n c (reply.Replaced place woken) xs = inl refl
+entry_cases n c (reply.Closed woken) xs = inl refl
+entry_cases n c reply.Reopened xs = inl refl
+entry_cases n c reply.Left xs = inl refl
+entry_cases n c reply.NotParked xs = inl refl
+entry_cases n c (reply.Full by count) xs = inr (by, count, refl)
 
 -- An event that is an own entry on object p.
 record IsOwn (n p : ℕ) (i : Item) (rest : List Item) : Type 0 where
@@ -61,7 +60,7 @@ record IsOwn (n p : ℕ) (i : Item) (rest : List Item) : Type 0 where
 
 asked_head : (n p : ℕ) (i : Item) (rest : List Item) → (asked_entries n p (i ∷ rest) ≡ asked_entries n p rest) ⊎ IsOwn n p i rest
 asked_head n p (item.Asked object c r) rest = elim (eqb_tells object p) [
-  | inl s ↦ elim (kept_cases n c r (asked_entries n p rest)) [
+  | inl s ↦ elim (entry_cases n c r (asked_entries n p rest)) [
     | inl k ↦ inr (record { call = c; reply = r; is = ap (λ q. item.Asked q c r) s.1; adds = rw s.0 k })
     | inr f ↦ inl (rw (s.0, f.2) refl)
   ]
@@ -131,7 +130,7 @@ refused_event n p c (item.Asked object c' r) rest q h =
     let same : p ≡ object = cc in
     let here : asked_entries n object (item.Asked object c' r ∷ rest) ≡ [] = subst (λ x. asked_entries n x (item.Asked object c' r ∷ rest) ≡ []) same h in
     elim (eqb_tells object object) [
-      | inl s ↦ elim (kept_cases n c' r (asked_entries n object rest)) [
+      | inl s ↦ elim (entry_cases n c' r (asked_entries n object rest)) [
         | inl k ↦ absurd (cons_nil (record { caller = n; call = c'; reply = r }) (asked_entries n object rest)
             (sym (let z : asked_entries n object (item.Asked object c' r ∷ rest) ≡ record { caller = n; call = c'; reply = r } ∷ asked_entries n object rest = rw s.0 k in z) ∙ here))
         | inr f ↦ record { call = c'; by = f.0; count = f.1; is = ap (λ x. item.Asked x c' r) (sym same) ∙ ap (λ x. item.Asked p c' x) f.2 }

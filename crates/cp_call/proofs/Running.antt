@@ -1,9 +1,10 @@
 -- The workers of a run while it goes on: each event keeps what holds of all of them, and at the end they are tied to the run.
-use Rattle.std.proofs.Common.{◌≡◌, ◌≢◌, inl, inr, ℕ, zero, suc, ◌+◌, ◌<◌, ◌==◌, List, [], ◌∷◌, ◌++◌, length, refl, sym, ◌∙◌, ap, subst, true, false, Bool, ◌&&◌, ◌||◌, arith, Option, Some, None}
-use Rattle.std.specs.Prelude.{slice_get, slice_set}
+use Rattle.std.proofs.Common.{◌≡◌, ◌≢◌, inl, inr, ℕ, zero, suc, ◌+◌, ◌<◌, ◌==◌, List, [], ◌∷◌, ◌++◌, length, refl, sym, ◌∙◌, ap, subst, true, false, Bool, ◌&&◌, ◌||◌, arith, Some}
+use Rattle.std.specs.Prelude.{slice_get, slice_set, replicate}
 use Rattle.std.specs.List.{list_all, list_any}
 use Rattle.std.proofs.lemmas.Bool.Decides.{eqb_tells}
-use Rattle.std.proofs.lemmas.Bool.{and_parts, and_from}
+use Rattle.std.proofs.lemmas.Bool.{and_from}
+use Rattle.std.proofs.lemmas.Option.{slice_get_within}
 use Rattle.std.proofs.lemmas.List.Elements.{filter-append}
 use Rattle.std.proofs.lemmas.List.Folds.{list_all-append}
 use Rattle.cp_list.specs.Lists.{IsPrefix}
@@ -25,10 +26,10 @@ use Rattle.cp_call.specs.declared.outcome.PredEnd.{PredEnd}
 use Rattle.cp_call.specs.declared.outcome.OutEntry.{OutEntry}
 use Rattle.cp_call.specs.Asker.{entry_added, IsFullBy}
 use Rattle.cp_call.specs.Life.{Rule, IsWorkersLife, pending_request}
-use Rattle.cp_call.specs.Sound.{Object, Setup, own_entries, own_writes, Agrees, IsLife, IsTied, AreTied, history_at, is_engine, is_lane, has_failed, stays_failed}
-use Rattle.cp_call.specs.Added.{HasAdded}
-use Rattle.cp_call.specs.Running.{IsRunning, AreRunning, IsWorkerEnd, AreWorkerEnds}
-use Rattle.cp_call.proofs.Growing.{append_nil, IsWorkersLife-push}
+use Rattle.cp_call.specs.Sound.{Object, Setup, own_entries, own_writes, Agrees, AgreeFrom, IsLife, AreTied, history_at, is_engine, is_lane, has_failed, stays_failed}
+use Rattle.cp_call.specs.Added.{HasAdded, AsksForOne, WritesForOne}
+use Rattle.cp_call.specs.Running.{IsRunning, AreRunning, AreWorkerEnds}
+use Rattle.cp_call.proofs.Growing.{IsWorkersLife-push}
 use Rattle.cp_call.proofs.Event.{Agrees-others}
 use Rattle.cp_call.proofs.Adding.{Agrees-added, HasAdded-asked, HasAdded-wrote, HasAdded-silent}
 use Rattle.cp_call.proofs.Resting.{own_head}
@@ -91,6 +92,21 @@ IsRunning-others rule os seen now wrote wrote_now n items run grows own same = r
   agrees = subst (λ w. Agrees os now w n items) (sym same) (Agrees-others os seen now wrote n items grows own run.agrees);
 }
 
+AgreeFrom-none : (p : ℕ) (os : List Object) (seen : ℕ → List Entry) (n : ℕ) → ((q : ℕ) → own_entries n (seen q) ≡ []) → AgreeFrom p os seen n []
+AgreeFrom-none p [] seen n none = tt
+AgreeFrom-none p (o ∷ os) seen n none = (record { entries = none p; refusals = tt }, AgreeFrom-none (p + 1) os seen n none)
+
+-- Workers that have done nothing yet are running.
+pub AreRunning-new : (rule : Rule) (os : List Object) (seen : ℕ → ℕ → List Entry) (wrote : ℕ → List OutEntry) (n count : ℕ)
+    → ((m p : ℕ) → own_entries m (seen m p) ≡ [])
+    → ((m : ℕ) → wrote m ≡ [])
+    → AreRunning rule os seen wrote n (replicate count [])
+AreRunning-new rule os seen wrote n zero none unwritten = tt
+AreRunning-new rule os seen wrote n (suc count) none unwritten = (
+  record { life = tt; agrees = record { known = refl; asked = AgreeFrom-none 0 os (seen n) n (none n); wrote = unwritten n } },
+  AreRunning-new rule os seen wrote (n + 1) count none unwritten,
+)
+
 shift : (n k : ℕ) → (n + 1) + k ≡ n + suc k
 shift n k = omega arith
 
@@ -134,7 +150,33 @@ AreRunning-one rule os seen now wrote wrote_now n (suc k) (old ∷ engines) item
           (λ m q d. grows m q (subst (λ x. m ≢ x) e d)) (λ m q d. own m q (subst (λ x. m ≢ x) e d)) (λ m d. same m (subst (λ x. m ≢ x) e d)) run.1,
     )
 
-IsLife-worker : (s : Setup) (stand : Stand) (items : List Item) → is_lane stand ≡ false → IsWorkersLife s.rule items → IsLife s stand items
+running_at : (rule : Rule) (os : List Object) (seen : ℕ → ℕ → List Entry) (wrote : ℕ → List OutEntry) (n k : ℕ) (engines : List (List Item)) (items : List Item)
+    → slice_get engines k ≡ Some items
+    → AreRunning rule os seen wrote n engines
+    → IsRunning rule os (seen (n + k)) (wrote (n + k)) (n + k) items
+running_at rule os seen wrote n k [] items at run = cc
+running_at rule os seen wrote n zero (x ∷ engines) items at run =
+    let same : x ≡ items = cc in
+    let z : n ≡ n + 0 = omega arith in
+    subst (λ m. IsRunning rule os (seen m) (wrote m) m items) z (subst (IsRunning rule os (seen n) (wrote n) n) same run.0)
+running_at rule os seen wrote n (suc k) (x ∷ engines) items at run =
+    subst (λ m. IsRunning rule os (seen m) (wrote m) m items) (shift n k) (running_at rule os seen wrote (n + 1) k engines items at run.1)
+
+-- A call has worked for the engine at place k, and has added events to it that go on its life: all engines run on.
+pub AreRunning-added : (rule : Rule) (os os_now : List Object) (serves serves_now : ℕ → Bool) (seen now : ℕ → ℕ → List Entry) (looked looked_now : ℕ → ℕ → ℕ) (writes writes_now : ℕ → Bool) (wrote wrote_now : ℕ → List OutEntry) (n k : ℕ) (engines : List (List Item)) (items added : List Item)
+    → AreRunning rule os seen wrote n engines
+    → slice_get engines k ≡ Some items
+    → HasAdded os (seen (n + k)) (now (n + k)) (wrote (n + k)) (wrote_now (n + k)) (n + k) added
+    → IsWorkersLife rule (items ++ added)
+    → AsksForOne (n + k) os os_now serves serves_now seen now looked looked_now
+    → WritesForOne (n + k) writes writes_now wrote wrote_now
+    → AreRunning rule os now wrote_now n (slice_set engines k (items ++ added))
+AreRunning-added rule os os_now serves serves_now seen now looked looked_now writes writes_now wrote wrote_now n k engines items added run at h life asks puts =
+    AreRunning-one rule os seen now wrote wrote_now n k engines (items ++ added) (slice_get_within engines k items at)
+    (IsRunning-added rule os (seen (n + k)) (now (n + k)) (wrote (n + k)) (wrote_now (n + k)) (n + k) items added (running_at rule os seen wrote n k engines items at run) h life)
+    (λ m q d. asks.seen_grows m q) (λ m q d. asks.own_stay m q d) (λ m d. puts.wrote_stays m d) run
+
+pub IsLife-worker : (s : Setup) (stand : Stand) (items : List Item) → is_lane stand ≡ false → IsWorkersLife s.rule items → IsLife s stand items
 IsLife-worker s (stand.Parked object) items e life = life
 IsLife-worker s stand.Left items e life = absurd (let z : ⊥ = cc in z)
 

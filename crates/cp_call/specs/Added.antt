@@ -1,6 +1,6 @@
 -- What a call that works on behalf of one engine adds: events of the engine, which tell just what the asker and the writer
 -- tell more than before; and what it leaves as it was.
-use Rattle.std.specs.Prelude.{ℕ, ◌+◌, ◌<◌, ◌≡◌, ◌≢◌, ◌==◌, true, false, Bool, MatchBool, Option, Some, List, [], ◌∷◌, ◌++◌, length, slice_get}
+use Rattle.std.specs.Prelude.{ℕ, ◌<◌, ◌≡◌, ◌≢◌, ◌==◌, true, false, Bool, MatchBool, Some, List, [], ◌∷◌, ◌++◌, length, slice_get}
 use Rattle.std.specs.List.{list_all}
 use Rattle.cp_list.specs.Lists.{IsPrefix}
 use Rattle.cp_call.specs.declared.call.Call.{Call}

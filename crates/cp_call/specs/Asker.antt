@@ -1,4 +1,4 @@
--- What asking a shared object and writing on the port do to the lists that an asker and a writer tell.
+-- What asking a shared object does to what an asker tells of it, and when its refusals are right.
 use Rattle.std.specs.Prelude.{ℕ, ◌+◌, min, ◌≡◌, ◌≢◌, List, [], ◌∷◌, ◌++◌, true, false, Option, Some, None}
 use Rattle.cp_call.specs.declared.call.Call.{Call}
 use Rattle.cp_call.specs.declared.call.Call.TheVariants as call

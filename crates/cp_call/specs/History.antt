@@ -1,4 +1,5 @@
--- The history of a shared object: the state that it leaves, when it is full, when it is legal, and what its state keeps.
+-- The history of a shared object, the list of the calls that were made on it with their replies: the state that it leaves,
+-- when it is full, when it is legal, and what every state keeps.
 use Rattle.std.specs.Prelude.{ℕ, ◌≡◌, ◌+◌, ◌-◌, ◌^◌, min, nat_le, Bool, true, false, not, ◌&&◌, cond, List, [], ◌∷◌, ◌++◌, length, count_by, sum_by, Option, Some, None, is_none, ℤ, ◌≢◌, filter_map}
 use Rattle.std.specs.List.{list_all}
 use Rattle.cp_term.specs.declared.cell.Cell.{Cell}
@@ -14,12 +15,12 @@ use Rattle.cp_call.specs.declared.call.Entry.{Entry}
 use Rattle.cp_call.specs.declared.outcome.ParkedRow.{ParkedRow}
 use Rattle.cp_call.specs.Object.{State, opening_state, step, is_parked, first_seen, suspends}
 
--- the object after these entries' calls
+-- the state after the calls of these entries, one after another; their replies play no part
 abbrev pub state_from : State → List Entry → State
 state_from s [] = s
 state_from s (e ∷ es) = state_from (step s e.caller e.call).state es
 
--- the object after its whole history
+-- the state of an object that began with these opening facts, after its whole history
 abbrev pub state_after : ObjectKind → List (List Cell) → List Entry → State
 state_after k opening history = state_from (opening_state k opening) history
 
@@ -60,10 +61,12 @@ abbrev pub is_add_back : Call → Bool
 is_add_back (call.AddBack fact) = true
 is_add_back _ = false
 
+-- whether it waits for a fact that it leaves, as the call that waits for the end of a goal does
 abbrev pub is_next : Call → Bool
 is_next (call.Next pattern after) = true
 is_next _ = false
 
+-- whether the caller gives up waiting
 abbrev pub is_leave : Call → Bool
 is_leave call.Leave = true
 is_leave _ = false
@@ -72,21 +75,23 @@ is_leave _ = false
 abbrev pub posts_of : List (List Cell) → List Entry → ℕ
 posts_of opening history = length opening + count_by (λ (e : Entry). is_add_back e.call) history
 
--- whether the limits of entries and cells bind a call on an object of this kind
+-- Whether the limits of entries and cells bind a call on an object of this kind: on a program's predicate every call but the
+-- wish to leave, on the list of goals the posting of a goal, on the list of ended goals the wait for one. So a worker can
+-- always take a goal and say how it ended.
 abbrev pub is_bound : ObjectKind → Call → Bool
 is_bound kind.Goals c = is_add_back c
 is_bound kind.Ended c = is_next c
 is_bound kind.Concurrent c = not (is_leave c)
 is_bound kind.Plain c = not (is_leave c)
 
--- whether the limit of posts binds it
+-- whether the limit of posted goals binds it
 abbrev pub is_post : ObjectKind → Call → Bool
 is_post kind.Goals c = is_add_back c
 is_post kind.Ended c = false
 is_post kind.Concurrent c = false
 is_post kind.Plain c = false
 
--- Which limit is reached, and the count that reached it.
+-- Which limit is reached, and the count that has reached it.
 pub record Limit : Type 0 where
   pub by : FullBy
   pub count : ℕ
@@ -108,8 +113,8 @@ full_at k posts entries cells c =
 abbrev pub full : ObjectKind → List (List Cell) → List Entry → Call → Option Limit
 full k opening history c = full_at k (posts_of opening history) (length history) (cells_of history) c
 
--- An entry may follow these entries: its reply is the one that the object gives there, its caller is not
--- parked there unless it gives up waiting, and the history has room for its call.
+-- An entry may follow these entries: its reply is the one that the object gives in the state that they leave, its caller
+-- is not parked in that state unless it gives up waiting, and the history has room for its call.
 pub record MayFollow (k : ObjectKind) (opening : List (List Cell)) (before : List Entry) (e : Entry) : Type 0 where
   pub replied : e.reply ≡ (step (state_after k opening before) e.caller e.call).reply
   pub awake : is_parked (state_after k opening before) e.caller && not (is_leave e.call) ≡ false

@@ -1,5 +1,5 @@
--- What the engine of a lane does, one event after another: it is given the call of a remote goal, runs the goal and
--- gathers its answers, and answers the call.
+-- What the engine of a lane does, one event after another: it is given a remote call, runs the call's goal and gathers its
+-- answers, answers the call, and is given the next. Unlike a worker it may give up waiting.
 use Rattle.std.specs.Prelude.{ℕ, zero, suc, ◌+◌, ◌-◌, ◌==◌, nat_le, ◌≡◌, ◌⊎◌, Bool, true, false, ◌&&◌, List, [], ◌∷◌, ◌++◌, length, sum_by, codes}
 use Rattle.std.specs.List.{list_any}
 use Rattle.std.specs.Str.{bytes_eq}
@@ -43,7 +43,7 @@ has_room answers answer = nat_le (sum_by wire_size_of answers + wire_size_of ans
 abbrev pub goal_of : RemoteCall → List Cell
 goal_of c = Func (codes ":") 2 ∷ Atom c.module ∷ c.goal
 
--- whether a predicate has this module, name and arity
+-- whether it is the predicate of this module, name and arity
 abbrev pub is_named : List ℕ → List ℕ → ℕ → PredName → Bool
 is_named module_name name arity p = bytes_eq p.module module_name && bytes_eq p.name name && p.arity == arity
 
@@ -75,9 +75,9 @@ pub data LaneStage : Type 0 where
 abbrev pub replies : List (List Cell) → RemoteEnd → LaneStage
 replies answers e = Replies (record { answers = answers; end = e })
 
--- The goal runs on until it makes a request or its call is to be answered. Each answer on the way is gathered, and
--- one more is looked for. The end is Limit at the first answer for which there is no room, be it in the number of
--- answers that the call wants (`room` is how many more these are) or in bytes; that answer is not kept.
+-- The goal runs on until it makes a request or its call is to be answered. Each answer on the way is gathered, and one more
+-- is looked for. The end is Limit at the first answer for which there is no room, be it in the number of answers that the
+-- call wants (`room` is how many more these are) or in bytes; that answer is not kept, and what its search did stays done.
 abbrev pub serves_on : Rule → RemoteCall → (room : ℕ) → List Input → List (List Cell) → LaneStage
 serves_on rule c zero inputs answers = elim (rule (goal_of c) inputs) [
   | next.Ask object asked ↦ Serves c inputs answers (next.Ask object asked)
@@ -113,7 +113,8 @@ abbrev pub replied : Rule → RemoteCall → List Input → List (List Cell) →
 replied rule c inputs answers request reply.Parked = Waits c inputs answers request
 replied rule c inputs answers request r = runs_on rule c (inputs ++ input.Reply r ∷ []) answers
 
--- the waiting engine asked to leave: with Left it gives up, and else it makes its request again
+-- the waiting engine asked to leave: with Left it gives up, with the answers so far; and else, since it has been woken, it
+-- makes its request again
 abbrev pub left : RemoteCall → List Input → List (List Cell) → Next → Reply → LaneStage
 left c inputs answers request reply.Left = replies answers end.Suspended
 left c inputs answers request _ = Serves c inputs answers request

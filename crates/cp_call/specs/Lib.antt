@@ -10,3 +10,4 @@ pub mod Refusals
 pub mod Setup
 pub mod Added
 pub mod Running
+pub mod Progress

@@ -1,5 +1,6 @@
--- What a worker engine does, one event after another: it takes goals, runs each to its first answer or its end, and
--- says how it ended.
+-- What a worker engine does, one event after another: it takes a goal, runs it to its first answer or its end, says how it
+-- ended, and takes the next. What the goal does is the rule's; what the worker is replied is the shared objects'. So a life
+-- is a list of events, each of which is the request that is due with some reply.
 use Rattle.std.specs.Prelude.{◌≡◌, ℤ, List, [], ◌∷◌, ◌++◌, None, codes}
 use Rattle.cp_term.specs.declared.cell.Cell.{Cell}
 use Rattle.cp_term.specs.declared.cell.Cell.TheVariants.{Var, Int, Atom, Func}
@@ -15,7 +16,7 @@ use Rattle.cp_call.specs.declared.item.Input.TheVariants as input
 use Rattle.cp_call.specs.declared.item.Item.{Item}
 use Rattle.cp_call.specs.declared.item.Item.TheVariants as item
 
--- What goals do, as a definition: what a goal does next, once it was handed these inputs.
+-- What goals do, as a definition: what a goal does next, once it was handed these inputs since it was started.
 abbrev pub Rule : Type 0
 Rule = List Cell → List Input → Next
 
@@ -60,7 +61,8 @@ request_at Idle = next.Ask 0 (call.Take (Var 0 ∷ []) None)
 request_at (Runs number goal inputs request) = request
 request_at (Ends number end) = next.Ask 1 (call.AddBack (ended_fact number end))
 
--- the worker was replied this by an object: after Parked it asks again
+-- The worker was replied this by an object. After Parked it asks the same again, and the goal is handed nothing. An idle
+-- worker goes on only with a goal that it has found.
 abbrev pub replied : Rule → WorkerStage → Reply → WorkerStage
 replied rule Idle (reply.Found number goal) = runs_on rule number goal []
 replied rule Idle _ = Idle
@@ -69,7 +71,7 @@ replied rule (Runs number goal inputs request) r = runs_on rule number goal (inp
 replied rule (Ends number end) reply.Parked = Ends number end
 replied rule (Ends number end) _ = Idle
 
--- the worker's goal was handed this
+-- the worker's goal was handed this, which no object has replied
 abbrev pub handed : Rule → WorkerStage → Input → WorkerStage
 handed rule Idle i = Idle
 handed rule (Runs number goal inputs request) i = runs_on rule number goal (inputs ++ i ∷ [])
@@ -96,7 +98,7 @@ IsRequest request (item.Remote call r) = request ≡ next.Remote call
 IsRequest request (item.Given call) = ⊥
 IsRequest request (item.Answered r) = ⊥
 
--- From this stage on the events are a worker's: each is what the stage before it asks for.
+-- From this stage on the events are a worker's: each is what is asked for at the stage where it stands.
 abbrev pub IsLifeFrom : Rule → WorkerStage → List Item → Type 0
 IsLifeFrom rule s [] = Unit {0}
 IsLifeFrom rule s (i ∷ items) = IsRequest (request_at s) i × IsLifeFrom rule (stage_after rule s i) items

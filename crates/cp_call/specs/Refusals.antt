@@ -1,5 +1,5 @@
 -- When a call is refused, and why.
-use Rattle.std.specs.Prelude.{ℕ, ◌≡◌, Bool, true, false, Option, Some, None, Result, Ok, Err, MatchResult}
+use Rattle.std.specs.Prelude.{◌≡◌, Bool, true, false, Option, Some, None, Result, Ok, Err, MatchResult}
 use Rattle.cp_call.specs.History.{Limit}
 use Rattle.cp_call.specs.declared.refused.Refused.{Refused}
 use Rattle.cp_call.specs.declared.refused.Refused.TheVariants as refused

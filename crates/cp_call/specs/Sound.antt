@@ -1,5 +1,5 @@
 -- A run as a whole: the shared objects, the engines and the port, and how they belong together.
-use Rattle.std.specs.Prelude.{ℕ, ◌+◌, ◌==◌, nat_le, nat_lt, ◌≡◌, Bool, true, false, ◌&&◌, IsTrue, MatchBool, MatchOption, cond, List, [], ◌∷◌, ◌++◌, length, filter, Option, Some, None, slice_get}
+use Rattle.std.specs.Prelude.{ℕ, ◌+◌, ◌==◌, nat_le, nat_lt, ◌≡◌, Bool, true, false, ◌&&◌, IsTrue, MatchBool, MatchOption, cond, List, [], ◌∷◌, ◌++◌, length, Option, Some, None, slice_get}
 use Rattle.std.specs.List.{list_all, list_any}
 use Rattle.cp_list.specs.Lists.{own}
 use Rattle.cp_term.specs.declared.cell.Cell.{Cell}
@@ -47,7 +47,7 @@ objects_with goals preds =
     record { name = name.Goals; kind = kind.Goals; opening = goals } ∷
     record { name = name.Ended; kind = kind.Ended; opening = [] } ∷ preds
 
--- whether an engine is a lane's: it has left
+-- whether an engine is a lane's: it is one that leaves when all is served, and is never left parked
 abbrev pub is_lane : Stand → Bool
 is_lane (stand.Parked object) = false
 is_lane stand.Left = true
@@ -65,7 +65,8 @@ abbrev pub entry_unless_full : ℕ → Call → Reply → List Entry → List En
 entry_unless_full n c (reply.Full by count) rest = rest
 entry_unless_full n c r rest = record { caller = n; call = c; reply = r } ∷ rest
 
--- the entries that an engine's events say it has on an object
+-- the entries that an engine's events say it has on an object: its calls there with their replies, but for those that were
+-- refused for want of room
 abbrev pub asked_entries : ℕ → ℕ → List Item → List Entry
 asked_entries n p [] = []
 asked_entries n p (item.Asked object c r ∷ items) =
@@ -166,10 +167,11 @@ is_engine count n = nat_le 1 n && nat_le n count
 abbrev pub has_callers : ℕ → PredEnd → Bool
 has_callers count pred = list_all (λ (e : Entry). is_engine count e.caller) pred.history
 
--- once a write has failed, every later one fails
+-- whether a write has failed
 abbrev pub has_failed : OutEntry → Bool
 has_failed w = elim w.reply [ put.Wrote ↦ false | put.Failed ↦ true ]
 
+-- once a write has failed, every later one fails
 abbrev pub stays_failed : List OutEntry → Bool
 stays_failed [] = true
 stays_failed (w ∷ port) = elim w.reply [ put.Wrote ↦ stays_failed port | put.Failed ↦ list_all has_failed port ]
@@ -198,7 +200,8 @@ AreKept (o ∷ os) (pred ∷ preds) = IsKept o pred × AreKept os preds
 AreKept [] (pred ∷ preds) = ⊥
 AreKept (o ∷ os) [] = ⊥
 
--- What holds of a run at every moment.
+-- What holds of a run at every moment: each object is in the state that its legal history leaves, which is calm, and
+-- engines, objects and port belong together.
 pub record Going (s : Setup) (o : Outcome) : Type 0 where
   pub objects : AreKept s.objects o.preds
   pub tied : Tied s o

@@ -15,7 +15,9 @@ use Rattle.cp_call.proofs.Growing.{state_after-push, Legal-push}
 use Rattle.cp_call.proofs.Calmness.{Calm-step}
 use Rattle.cp_fact.specs.declared.plan.Plan.{Plan}
 use Rattle.cp_fact.specs.declared.pred.Pred.TheInside.{Inside}
-use Rattle.cp_fact.specs.Plan.{facts_after, parked_after, open_after, changed, IsRightPlan}
+use Rattle.cp_fact.specs.declared.contents.Contents.{Contents}
+use Rattle.cp_fact.specs.Contents.{state_in, changed}
+use Rattle.cp_fact.specs.Plan.{IsRightPlan}
 use Rattle.cp_fact.specs.Inside.{IsStore, IsReady, inside_state}
 
 -- the entry of a plan
@@ -34,42 +36,37 @@ cells-push history e = omega (arith, sum_by-append (λ (x : Entry). cells_of_cal
 saturated : (x y a b m : ℕ) → a ≡ min x m → b ≡ min (a + y) m → b ≡ min (x + y) m
 saturated x y a b m p q = omega arith
 
-saturated_twice : (x y z a b m : ℕ) → a ≡ min x m → z ≡ min y m → b ≡ min (a + z) m → b ≡ min (x + y) m
-saturated_twice x y z a b m p r q = omega arith
-
-pub commit_keeps : (a : Inside) (p : Plan) (facts : Vec FactRow Global) (parked : ReservedList ParkedRow) (history : ReservedList Entry) (is_open : Bool) (posts cells : ℕ) (plan : Option Plan)
+pub commit_keeps : (a : Inside) (p : Plan) (contents : Contents) (history : ReservedList Entry) (posts cells : ℕ) (plan : Option Plan)
     → IsStore a → a.plan ≡ Some p → plan ≡ None
-    → facts.items ≡ facts_after p.change a.facts.items
-    → parked.items ≡ parked_after p.change a.parked.items
-    → is_open ≡ open_after p.change a.is_open
+    → state_in contents ≡ changed p.change (state_in a.contents)
     → history.items ≡ a.history.items ++ entry_of p ∷ []
     → posts ≡ min (a.posts + cond (is_add_back p.call) 1 0) (2 ^ 64 - 1)
     → cells ≡ min (a.cells + p.cells) (2 ^ 64 - 1)
-    → IsStore (record { alloc = a.alloc; kind = a.kind; opening = a.opening; facts = facts; lowest = a.lowest; highest = a.highest; is_open = is_open; parked = parked; history = history; posts = posts; cells = cells; plan = plan })
-commit_keeps a p facts parked history is_open posts cells plan s e en ef ep eo eh eposts ecells = record {
-  state = ap (state_after a.kind a.opening) eh ∙ (state_after-push a.kind a.opening a.history.items (entry_of p)
-      ∙ (sym r.right.state ∙ (ap (changed p.change) s.state ∙ here)));
-  legal = subst (Legal a.kind a.opening) (sym eh) (Legal-push a.kind a.opening a.history.items (entry_of p) s.legal follows);
-  calm = subst (λ h. Calm (state_after a.kind a.opening h)) (sym eh)
-      (subst Calm (sym (state_after-push a.kind a.opening a.history.items (entry_of p))) (Calm-step (inside_state a) p.caller p.call s.calm));
+    → IsStore (record { alloc = a.alloc; opening = a.opening; contents = contents; history = history; posts = posts; cells = cells; plan = plan })
+commit_keeps a p contents history posts cells plan s e en ec eh eposts ecells = record {
+  state = there ∙ (sym r.right.state ∙ (ap (changed p.change) s.state ∙ sym ec));
+  legal = rw (kind_is, eh) (Legal-push a.contents.kind a.opening a.history.items (entry_of p) s.legal follows);
+  calm = subst Calm (sym there) (Calm-step (inside_state a) p.caller p.call s.calm);
   posts = subst (λ h. posts ≡ min (posts_of a.opening h) (2 ^ 64 - 1)) (sym eh)
       (subst (λ x. posts ≡ min x (2 ^ 64 - 1)) (sym (posts-push a.opening a.history.items (entry_of p)))
       (saturated (posts_of a.opening a.history.items) (cond (is_add_back p.call) 1 0) a.posts posts (2 ^ 64 - 1) s.posts eposts));
   cells = subst (λ h. cells ≡ min (cells_of h) (2 ^ 64 - 1)) (sym eh)
       (subst (λ x. cells ≡ min x (2 ^ 64 - 1)) (sym (cells-push a.history.items (entry_of p)))
-      (saturated_twice (cells_of a.history.items) (cells_of_call p.call + cells_of_reply p.recorded) p.cells a.cells cells (2 ^ 64 - 1) s.cells pcells ecells));
+      (saturated (cells_of a.history.items) (cells_of_call p.call + cells_of_reply p.recorded) a.cells cells (2 ^ 64 - 1) s.cells pcells));
   plan = rw en tt;
 }
   where
     r : IsReady a p
     r = subst (λ o. MatchOption o (Unit {0}) (IsReady a)) e s.plan
 
-    here : changed p.change (record { kind = a.kind; facts = a.facts.items; lowest = a.lowest; highest = a.highest; is_open = a.is_open; parked = a.parked.items })
-        ≡ record { kind = a.kind; facts = facts.items; lowest = a.lowest; highest = a.highest; is_open = is_open; parked = parked.items }
-    here = rw (ef, ep, eo) refl
+    kind_is : contents.kind ≡ a.contents.kind
+    kind_is = ap (λ (x : State). x.kind) ec
 
-    pcells : p.cells ≡ min (cells_of_call p.call + cells_of_reply p.recorded) (2 ^ 64 - 1)
-    pcells = subst (λ x. p.cells ≡ min (cells_of_call p.call + cells_of_reply x) (2 ^ 64 - 1)) (sym r.right.recorded) r.right.cells
+    there : state_after contents.kind a.opening history.items ≡ (step (inside_state a) p.caller p.call).state
+    there = rw (kind_is, eh) (state_after-push a.contents.kind a.opening a.history.items (entry_of p))
 
-    follows : MayFollow a.kind a.opening a.history.items (entry_of p)
+    pcells : cells ≡ min (a.cells + (cells_of_call p.call + cells_of_reply p.recorded)) (2 ^ 64 - 1)
+    pcells = subst (λ x. cells ≡ min (a.cells + x) (2 ^ 64 - 1)) (r.right.cells ∙ ap (λ x. cells_of_call p.call + cells_of_reply x) (sym r.right.recorded)) ecells
+
+    follows : MayFollow a.contents.kind a.opening a.history.items (entry_of p)
     follows = record { replied = r.right.recorded ∙ r.right.reply; awake = r.awake; room = r.limit }

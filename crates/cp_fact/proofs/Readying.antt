@@ -16,7 +16,13 @@ use Rattle.cp_fact.specs.declared.plan.Plan.{Plan}
 use Rattle.cp_fact.specs.declared.pred.Pred.TheInside.{Inside}
 use Rattle.cp_call.specs.declared.refused.Refused.{Refused}
 use Rattle.cp_call.specs.declared.refused.Refused.TheVariants as refused
+use Rattle.cp_fact.specs.declared.contents.Contents.{Contents}
+use Rattle.cp_fact.specs.Contents.{state_in}
+use Rattle.cp_fact.specs.Effect.{IsPlaced}
 use Rattle.cp_fact.specs.Plan.{IsPlanFor, IsRightPlan}
+use Rattle.cp_fact.proofs.Placing.{placed_after}
+use Rattle.std.specs.Prelude.{vec_len}
+use Rattle.std.specs.Vec.{vec_capacity}
 use Rattle.cp_fact.specs.Inside.{IsStore, IsReady, inside_state, store_of}
 use Rattle.cp_call.specs.Refusals.{IsPrepared, tested}
 
@@ -32,15 +38,16 @@ full_saturated k c posts entries cells p q ep eq = rw (ep, eq, le_min 4096 posts
 
 -- the test of the fields is the test of what contracts see
 pub test_is : (a : Inside) (n entries : ℕ) (c : Call) → IsStore a → entries ≡ length a.history.items
-    → tested (list_any (λ (w : ParkedRow). w.caller == n) a.parked.items && not (is_leave c)) (full_at a.kind a.posts entries a.cells c)
-      ≡ tested (is_still_parked (store_of a) n c) (limit_of (store_of a) c)
-test_is a n entries c s e = ap (λ b. tested b (full_at a.kind a.posts entries a.cells c)) parked ∙ ap (tested (is_still_parked (store_of a) n c)) limit
+    → tested (list_any (λ (w : ParkedRow). w.caller == n) a.contents.parked.items && not (is_leave c)) (full_at a.contents.kind a.posts entries a.cells c)
+    ≡ tested (is_still_parked (store_of a) n c) (limit_of (store_of a) c)
+test_is a n entries c s e = ap (λ b. tested b (full_at a.contents.kind a.posts entries a.cells c)) parked ∙ ap (tested (is_still_parked (store_of a) n c)) limit
   where
-    parked : (list_any (λ (w : ParkedRow). w.caller == n) a.parked.items && not (is_leave c)) ≡ is_still_parked (store_of a) n c
+    parked : (list_any (λ (w : ParkedRow). w.caller == n) a.contents.parked.items && not (is_leave c)) ≡ is_still_parked (store_of a) n c
     parked = ap (λ (x : State). is_parked x n && not (is_leave c)) (sym s.state)
-    limit : full_at a.kind a.posts entries a.cells c ≡ limit_of (store_of a) c
-    limit = full_saturated a.kind c (posts_of a.opening a.history.items) entries (cells_of a.history.items) a.posts a.cells s.posts s.cells
-      ∙ ap (λ x. full_at a.kind (posts_of a.opening a.history.items) x (cells_of a.history.items) c) e
+
+    limit : full_at a.contents.kind a.posts entries a.cells c ≡ limit_of (store_of a) c
+    limit = full_saturated a.contents.kind c (posts_of a.opening a.history.items) entries (cells_of a.history.items) a.posts a.cells s.posts s.cells
+        ∙ ap (λ x. full_at a.contents.kind (posts_of a.opening a.history.items) x (cells_of a.history.items) c) e
 
 pub refused_by_test : (b : Bool) (l : Option Limit) (e : Refused) → tested b l ≡ Err e → IsPrepared b l (Err e)
 refused_by_test true l e h = sym h
@@ -62,22 +69,34 @@ passed true l u h = cc
 passed false (Some l) u h = cc
 passed false None u h = (refl, refl)
 
-pub ready_keeps : (a : Inside) (parked : ReservedList ParkedRow) (history : ReservedList Entry) (p : Plan) (n : ℕ) (c : Call) (u : Unit {0})
-    → IsStore a → parked.items ≡ a.parked.items → history.items ≡ a.history.items → 0 < history.spare → 0 < parked.spare
+-- the places of the facts differ
+pub inside_placed : (a : Inside) (contents : Contents) → IsStore a → state_in contents ≡ state_in a.contents → IsPlaced (state_in contents)
+inside_placed a contents s e = subst IsPlaced (s.state ∙ sym e) (placed_after a.contents.kind a.opening a.history.items)
+
+pub ready_keeps : (a : Inside) (contents : Contents) (history : ReservedList Entry) (p : Plan) (n : ℕ) (c : Call) (u : Unit {0})
+    → IsStore a → state_in contents ≡ state_in a.contents → history.items ≡ a.history.items
+    → 0 < history.spare → 0 < contents.parked.spare → vec_len contents.facts < vec_capacity contents.facts
     → tested (is_still_parked (store_of a) n c) (limit_of (store_of a) c) ≡ Ok u
-    → IsPlanFor a.kind a.is_open a.facts.items n c p
-    → IsStore (record { alloc = a.alloc; kind = a.kind; opening = a.opening; facts = a.facts; lowest = a.lowest; highest = a.highest; is_open = a.is_open; parked = parked; history = history; posts = a.posts; cells = a.cells; plan = Some p })
-ready_keeps a parked history p n c u s ep eh room room' t f = record {
-  state = ap (state_after a.kind a.opening) eh ∙ (s.state ∙ (let z : record { kind = a.kind; facts = a.facts.items; lowest = a.lowest; highest = a.highest; is_open = a.is_open; parked = a.parked.items } ≡ record { kind = a.kind; facts = a.facts.items; lowest = a.lowest; highest = a.highest; is_open = a.is_open; parked = parked.items } = rw ep refl in z));
-  legal = subst (Legal a.kind a.opening) (sym eh) s.legal;
-  calm = subst (λ h. Calm (state_after a.kind a.opening h)) (sym eh) s.calm;
-  posts = subst (λ h. a.posts ≡ min (posts_of a.opening h) (2 ^ 64 - 1)) (sym eh) s.posts;
-  cells = subst (λ h. a.cells ≡ min (cells_of h) (2 ^ 64 - 1)) (sym eh) s.cells;
+    → IsPlanFor (state_in contents) n c p
+    → IsStore (record { alloc = a.alloc; opening = a.opening; contents = contents; history = history; posts = a.posts; cells = a.cells; plan = Some p })
+ready_keeps a contents history p n c u s ec eh entry_room parked_room facts_room t f = record {
+  state = there ∙ (s.state ∙ sym ec);
+  legal = rw (kind_is, eh) s.legal;
+  calm = subst Calm (sym there) s.calm;
+  posts = rw eh s.posts;
+  cells = rw eh s.cells;
   plan = record {
-    right = subst (λ h. IsRightPlan (state_after a.kind a.opening h) p) (sym eh) (f.right (inside_state a) (ap (λ (x : State). x.kind) s.state) (ap (λ (x : State). x.is_open) s.state) (ap (λ (x : State). x.facts) s.state));
-    awake = subst (λ h. is_parked (state_after a.kind a.opening h) p.caller && not (is_leave p.call) ≡ false) (sym eh) (rw (f.caller_is, f.call_is) (passed (is_still_parked (store_of a) n c) (limit_of (store_of a) c) u t).0);
-    limit = subst (λ h. full a.kind a.opening h p.call ≡ None) (sym eh) (rw f.call_is (passed (is_still_parked (store_of a) n c) (limit_of (store_of a) c) u t).1);
-    entry_room = room;
-    parked_room = room';
+    right = subst (λ x. IsRightPlan x p) (sym (there ∙ (s.state ∙ sym ec))) f.right;
+    awake = subst (λ (x : State). is_parked x p.caller && not (is_leave p.call) ≡ false) (sym there) (rw (f.caller_is, f.call_is) (passed (is_still_parked (store_of a) n c) (limit_of (store_of a) c) u t).0);
+    limit = rw (kind_is, eh, f.call_is) (passed (is_still_parked (store_of a) n c) (limit_of (store_of a) c) u t).1;
+    entry_room = entry_room;
+    parked_room = parked_room;
+    facts_room = facts_room;
   };
 }
+  where
+    kind_is : contents.kind ≡ a.contents.kind
+    kind_is = ap (λ (x : State). x.kind) ec
+
+    there : state_after contents.kind a.opening history.items ≡ state_after a.contents.kind a.opening a.history.items
+    there = rw (kind_is, eh) refl

@@ -1,2 +1,4 @@
+pub mod Contents
+pub mod Effect
 pub mod Plan
 pub mod Inside

@@ -1,6 +1,6 @@
 -- What asking an object of a hall does to what the hall tells.
 use Rattle.std.proofs.Common.{◌≡◌, ◌≢◌, ◌⊎◌, inl, inr, ℕ, zero, suc, ◌<◌, ◌==◌, List, [], ◌∷◌, ◌++◌, length, refl, sym, ◌∙◌, ap, subst, true, false, Bool, not, ◌&&◌, Option, Some, None, arith}
-use Rattle.std.specs.Prelude.{map, slice_get, slice_set, Result, Err}
+use Rattle.std.specs.Prelude.{map, slice_get, slice_set, Result, Ok, Err}
 use Rattle.std.proofs.lemmas.Bool.{and_parts}
 use Rattle.std.proofs.lemmas.Bool.Decides.{eqb_tells}
 use Rattle.cp_term.specs.declared.cell.Cell.{Cell}
@@ -26,7 +26,7 @@ use Rattle.cp_call.specs.declared.refused.Refused.{Refused}
 use Rattle.cp_call.specs.declared.refused.Refused.TheVariants as refused
 use Rattle.cp_call.specs.Refusals.{IsPrepared}
 use Rattle.cp_hall.specs.declared.hall.HallRow.{HallRow}
-use Rattle.cp_hall.specs.Hall.{object_of, history_of}
+use Rattle.cp_hall.specs.Hall.{HallObject, hall_object, objects_of, history_of, history_at, with_entries, with_more, IsAnswer}
 
 still_from : (b : Bool) (l : Option Limit) → IsPrepared b l (Err refused.StillParked) → b ≡ true
 still_from true l h = refl
@@ -94,35 +94,88 @@ full_is v n c by count h o ek eo =
       awake = rw (ek, eo) (awake_from (is_parked (state_of v) n) (is_leave c) p.0 (no_leave v c (record { by = by; count = count }) p.1));
     }
 
-pub get_set_same : (rows : List HallRow) (i : ℕ) (r : HallRow) → i < length rows → slice_get (slice_set rows i r) i ≡ Some r
-get_set_same [] i r h = absurd (let z : ⊥ = omega arith in z)
-get_set_same (x ∷ rows) zero r h = refl
-get_set_same (x ∷ rows) (suc i) r h = get_set_same rows i r (omega arith)
+-- what a call is answered
+pub answer_still : (b : Bool) (l : Option Limit) (r : Reply) → IsPrepared b l (Err refused.StillParked) → IsAnswer b l r asked.StillParked
+answer_still true l r h = refl
+answer_still false (Some l) r h = cc
+answer_still false None r h = cc
 
-get_set_other : (rows : List HallRow) (i j : ℕ) (r : HallRow) → i ≢ j → slice_get (slice_set rows i r) j ≡ slice_get rows j
-get_set_other [] i j r h = refl
-get_set_other (x ∷ rows) zero zero r h = absurd (h refl)
-get_set_other (x ∷ rows) zero (suc j) r h = refl
-get_set_other (x ∷ rows) (suc i) zero r h = refl
-get_set_other (x ∷ rows) (suc i) (suc j) r h = get_set_other rows i j r (λ e. h (ap suc e))
+pub answer_full : (b : Bool) (l : Option Limit) (r : Reply) (by : FullBy) (count : ℕ) → IsPrepared b l (Err (refused.Full by count)) → IsAnswer b l r (asked.Replied (reply.Full by count))
+answer_full true l r by count h = cc
+answer_full false (Some l) r by count h = let x : by ≡ l.by = cc in let y : count ≡ l.count = cc in rw (x, y) refl
+answer_full false None r by count h = cc
 
-pub map_set : (rows : List HallRow) (i : ℕ) (old new : HallRow) → slice_get rows i ≡ Some old → object_of new ≡ object_of old → map object_of (slice_set rows i new) ≡ map object_of rows
-map_set [] i old new h e = refl
-map_set (x ∷ rows) zero old new h e = let z : x ≡ old = cc in ap (λ o. o ∷ map object_of rows) (e ∙ ap object_of (sym z))
-map_set (x ∷ rows) (suc i) old new h e = ap (λ os. object_of x ∷ os) (map_set rows i old new h e)
+pub answer_memory : (b : Bool) (l : Option Limit) (r : Reply) → IsPrepared b l (Err refused.NoMemory) → IsAnswer b l r asked.NoMemory
+answer_memory true l r h = cc
+answer_memory false (Some l) r h = cc
+answer_memory false None r h = inr refl
 
-pub get_map : (rows : List HallRow) (i : ℕ) (r : HallRow) → slice_get rows i ≡ Some r → slice_get (map object_of rows) i ≡ Some (object_of r)
-get_map [] i r h = cc
-get_map (x ∷ rows) zero r h = let z : x ≡ r = cc in rw z refl
-get_map (x ∷ rows) (suc i) r h = get_map rows i r h
+pub answer_reply : (b : Bool) (l : Option Limit) (r s : Reply) (u : Unit {0}) → IsPrepared b l (Ok u) → s ≡ r → IsAnswer b l r (asked.Replied s)
+answer_reply true l r s u h e = cc
+answer_reply false (Some l) r s u h e = cc
+answer_reply false None r s u h e = inl (ap asked.Replied e)
+
+-- one object of a hall has more entries
+pub objects_more : (more : List Entry) (hall : List HallObject) (at : ℕ) → objects_of (with_more more hall at) ≡ objects_of hall
+objects_more more [] at = refl
+objects_more more (o ∷ hall) zero = refl
+objects_more more (o ∷ hall) (suc at) = ap (λ os. o.object ∷ os) (objects_more more hall at)
 
 append_nil : (xs : List Entry) → xs ++ [] ≡ xs
 append_nil [] = refl
 append_nil (x ∷ xs) = ap (λ r. x ∷ r) (append_nil xs)
 
-pub length_map : (rows : List HallRow) → length (map object_of rows) ≡ length rows
-length_map [] = refl
-length_map (x ∷ rows) = ap suc (length_map rows)
+pub history_more : (more : List Entry) (hall : List HallObject) (at p : ℕ) → IsPrefix (history_at hall p) (history_at (with_more more hall at) p)
+history_more more [] at p = ([], sym (append_nil (history_at [] p)))
+history_more more (o ∷ hall) zero zero = (more, refl)
+history_more more (o ∷ hall) zero (suc p) = ([], sym (append_nil (history_at hall p)))
+history_more more (o ∷ hall) (suc at) zero = ([], sym (append_nil o.history))
+history_more more (o ∷ hall) (suc at) (suc p) = history_more more hall at p
+
+pub history_here : (more : List Entry) (hall : List HallObject) (at : ℕ) → at < length hall → history_at (with_more more hall at) at ≡ history_at hall at ++ more
+history_here more [] at h = absurd (let z : ⊥ = omega arith in z)
+history_here more (o ∷ hall) zero h = refl
+history_here more (o ∷ hall) (suc at) h = history_here more hall at (omega arith)
+
+history_there : (more : List Entry) (hall : List HallObject) (at p : ℕ) → p ≢ at → history_at (with_more more hall at) p ≡ history_at hall p
+history_there more [] at p d = refl
+history_there more (o ∷ hall) zero zero d = absurd (d refl)
+history_there more (o ∷ hall) zero (suc p) d = refl
+history_there more (o ∷ hall) (suc at) zero d = refl
+history_there more (o ∷ hall) (suc at) (suc p) d = history_there more hall at p (λ e. d (ap suc e))
+
+-- a row of the hall is set
+pub set_is : (rows : List HallRow) (at : ℕ) (old new : HallRow) (more : List Entry) → slice_get rows at ≡ Some old → hall_object new ≡ with_entries more (hall_object old)
+    → map hall_object (slice_set rows at new) ≡ with_more more (map hall_object rows) at
+set_is [] at old new more h e = refl
+set_is (x ∷ rows) zero old new more h e = let z : x ≡ old = cc in ap (λ o. o ∷ map hall_object rows) (e ∙ ap (λ r. with_entries more (hall_object r)) (sym z))
+set_is (x ∷ rows) (suc at) old new more h e = ap (λ os. hall_object x ∷ os) (set_is rows at old new more h e)
+
+get_set_same : (rows : List HallRow) (at : ℕ) (r : HallRow) → at < length rows → slice_get (slice_set rows at r) at ≡ Some r
+get_set_same [] at r h = absurd (let z : ⊥ = omega arith in z)
+get_set_same (x ∷ rows) zero r h = refl
+get_set_same (x ∷ rows) (suc at) r h = get_set_same rows at r (omega arith)
+
+pub get_is : (rows : List HallRow) (at : ℕ) (r : HallRow) → slice_get rows at ≡ Some r → slice_get (map hall_object rows) at ≡ Some (hall_object r)
+get_is [] at r h = cc
+get_is (x ∷ rows) zero r h = let z : x ≡ r = cc in rw z refl
+get_is (x ∷ rows) (suc at) r h = get_is rows at r h
+
+pub history_set : (rows : List HallRow) (at : ℕ) (r : HallRow) → at < length rows → history_at (map hall_object (slice_set rows at r)) at ≡ r.pred.history
+history_set rows at r h = ap history_of (get_is (slice_set rows at r) at r (get_set_same rows at r h))
+
+pub object_is : (hall : List HallObject) (at : ℕ) (o : HallObject) → slice_get hall at ≡ Some o → slice_get (objects_of hall) at ≡ Some o.object
+object_is [] at o h = cc
+object_is (x ∷ hall) zero o h = let z : x ≡ o = cc in rw z refl
+object_is (x ∷ hall) (suc at) o h = object_is hall at o h
+
+pub length_is : (rows : List HallRow) → length (map hall_object rows) ≡ length rows
+length_is [] = refl
+length_is (x ∷ rows) = ap suc (length_is rows)
+
+pub length_objects : (hall : List HallObject) → length (objects_of hall) ≡ length hall
+length_objects [] = refl
+length_objects (x ∷ hall) = ap suc (length_objects hall)
 
 same : (n : ℕ) → (n == n) ≡ true
 same n = elim (eqb_tells n n) [ inl s ↦ s.0 | inr d ↦ absurd (d.1 refl) ]
@@ -130,32 +183,22 @@ same n = elim (eqb_tells n n) [ inl s ↦ s.0 | inr d ↦ absurd (d.1 refl) ]
 other : (n m : ℕ) → n ≢ m → (m == n) ≡ false
 other n m d = elim (eqb_tells m n) [ inl s ↦ absurd (d (sym s.1)) | inr o ↦ o.0 ]
 
-module _ (rows : List HallRow) (i : ℕ) (old new : HallRow) (inside : i < length rows) (was : slice_get rows i ≡ Some old) where
-  pub seen_begins : (more : List Entry) → new.pred.history ≡ old.pred.history ++ more → (p : ℕ) → IsPrefix (history_of (slice_get rows p)) (history_of (slice_get (slice_set rows i new) p))
-  seen_begins more e p = elim (eqb_tells i p) [
-    | inl s ↦ (let z : history_of (slice_get (slice_set rows i new) i) ≡ history_of (slice_get rows i) ++ more = rw (get_set_same rows i new inside, was) e in
-        subst (λ q. IsPrefix (history_of (slice_get rows q)) (history_of (slice_get (slice_set rows i new) q))) s.1 (more, z))
-    | inr d ↦ ([], ap history_of (get_set_other rows i p new d.1) ∙ sym (append_nil (history_of (slice_get rows p))))
-  ]
+pub own_grows : (n : ℕ) (more : List Entry) (hall : List HallObject) (at : ℕ) → at < length hall → own_entries n more ≡ more
+    → own_entries n (history_at (with_more more hall at) at) ≡ own_entries n (history_at hall at) ++ more
+own_grows n more hall at h own = ap (own_entries n) (history_here more hall at h)
+    ∙ (filter-append (λ (x : Entry). x.caller == n) (history_at hall at) more ∙ ap (λ m. own_entries n (history_at hall at) ++ m) own)
 
-  pub own_grows : (n : ℕ) (more : List Entry) → new.pred.history ≡ old.pred.history ++ more → own_entries n more ≡ more
-      → own_entries n (history_of (slice_get (slice_set rows i new) i)) ≡ own_entries n (history_of (slice_get rows i)) ++ more
-  own_grows n more e own =
-      ap (λ o. own_entries n (history_of o)) (get_set_same rows i new inside)
-      ∙ (ap (own_entries n) e ∙ (filter-append (λ (x : Entry). x.caller == n) old.pred.history more
-      ∙ (ap (λ m. own_entries n old.pred.history ++ m) own ∙ ap (λ o. own_entries n (history_of o) ++ more) (sym was))))
-
-  pub own_stays : (n m : ℕ) (more : List Entry) → new.pred.history ≡ old.pred.history ++ more → (n ≢ m → own_entries n more ≡ [])
-      → (p : ℕ) → (n ≢ m) ⊎ (p ≢ i) → own_entries n (history_of (slice_get (slice_set rows i new) p)) ≡ own_entries n (history_of (slice_get rows p))
-  own_stays n m more e none p (inr d) = ap (λ o. own_entries n (history_of o)) (get_set_other rows i p new (λ q. d (sym q)))
-  own_stays n m more e none p (inl d) = elim (eqb_tells i p) [
-    | inl s ↦ (let z : own_entries n (history_of (slice_get (slice_set rows i new) i)) ≡ own_entries n (history_of (slice_get rows i)) =
-        ap (λ o. own_entries n (history_of o)) (get_set_same rows i new inside)
-        ∙ (ap (own_entries n) e ∙ (filter-append (λ (x : Entry). x.caller == n) old.pred.history more
-        ∙ (ap (λ x. own_entries n old.pred.history ++ x) (none d) ∙ (append_nil (own_entries n old.pred.history) ∙ ap (λ o. own_entries n (history_of o)) (sym was))))) in
-        subst (λ q. own_entries n (history_of (slice_get (slice_set rows i new) q)) ≡ own_entries n (history_of (slice_get rows q))) s.1 z)
-    | inr o ↦ ap (λ r. own_entries n (history_of r)) (get_set_other rows i p new o.1)
-  ]
+pub own_stays : (n m : ℕ) (more : List Entry) (hall : List HallObject) (at p : ℕ) → at < length hall → (n ≢ m → own_entries n more ≡ [])
+    → (n ≢ m) ⊎ (p ≢ at) → own_entries n (history_at (with_more more hall at) p) ≡ own_entries n (history_at hall p)
+own_stays n m more hall at p h none (inr d) = ap (own_entries n) (history_there more hall at p d)
+own_stays n m more hall at p h none (inl d) = elim (eqb_tells at p) [
+  | inl s ↦ (let z : own_entries n (history_at (with_more more hall at) at) ≡ own_entries n (history_at hall at) =
+      ap (own_entries n) (history_here more hall at h)
+      ∙ (filter-append (λ (x : Entry). x.caller == n) (history_at hall at) more
+      ∙ (ap (λ x. own_entries n (history_at hall at) ++ x) (none d) ∙ append_nil (own_entries n (history_at hall at)))) in
+      subst (λ q. own_entries n (history_at (with_more more hall at) q) ≡ own_entries n (history_at hall q)) s.1 z)
+  | inr o ↦ ap (own_entries n) (history_there more hall at p (λ e. o.1 (sym e)))
+]
 
 -- the gained entries are all the caller's own
 pub kept_own : (n : ℕ) (c : Call) (r : Reply) → own_entries n (entry_unless_full n c r []) ≡ entry_unless_full n c r []

@@ -1,5 +1,5 @@
 -- What the output port keeps of what was put on its sink.
-use Rattle.std.specs.Prelude.{◌≡◌, ℕ, ◌≤◌, cond, Bool, true, false, Option, Some, None, List, [], ◌∷◌, ◌++◌, length, take, IsSomeAnd, refl}
+use Rattle.std.specs.Prelude.{◌≡◌, ℕ, ◌≤◌, cond, Bool, true, false, Option, Some, None, flat_map, List, [], ◌∷◌, ◌++◌, length, take, IsSomeAnd, refl}
 use Rattle.std.specs.List.{list_any}
 use Rattle.std.proofs.Common.{sym, ◌∙◌, ap, append_assoc}
 use Rattle.std.proofs.lemmas.List.{append-nil}
@@ -23,6 +23,10 @@ is_failure Failed = true
 -- whether some write has failed
 abbrev pub any_failed : List OutEntry → Bool
 any_failed port = list_any has_failed port
+
+-- the pieces of all writes, one after another
+abbrev pub pieces : List OutEntry → List ℕ
+pieces port = flat_map (λ (w : OutEntry). w.bytes) port
 
 -- the pieces that were written whole, one after another: those before the first that failed
 abbrev pub written : List OutEntry → List ℕ
@@ -76,5 +80,5 @@ goes_on-here p = record { first = refl; entries = ([], sym (append-nil p.entries
 pub goes_on-on : {S : Type 0} (p q r : PortView S) → GoesOn p q → GoesOn q r → GoesOn p r
 goes_on-on p q r a b = record {
   first = b.first ∙ a.first;
-  entries = (a.entries.0 ++ b.entries.0, b.entries.1 ∙ ap (λ es. es ++ b.entries.0) a.entries.1 ∙ append_assoc p.entries a.entries.0 b.entries.0)
+  entries = (a.entries.0 ++ b.entries.0, b.entries.1 ∙ ap (λ es. es ++ b.entries.0) a.entries.1 ∙ append_assoc p.entries a.entries.0 b.entries.0);
 }

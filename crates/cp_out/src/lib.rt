@@ -4,3 +4,6 @@
 mod port;
 
 pub use port::Port;
+
+#[cfg(test)]
+mod tests;

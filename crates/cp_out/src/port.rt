@@ -72,6 +72,13 @@ impl<S: Sink> Port<S> {
         Ok(reply)
     }
 
+    /// Whether a put has failed.
+    pub fn has_failed(&self) -> bool
+        ensures { result ≡ any_failed self.now.entries }
+    {
+        self.failed
+    }
+
     /// The sink and the entries. It takes no memory.
     pub fn into_parts(self) -> (S, OutEntries)
         ensures sink { result.0 ≡ self.sink }

@@ -1,10 +1,10 @@
 -- A plain file, its tokens and its program, which compute.
 use Rattle.std.proofs.Common.{◌≡◌, ℕ, List, [], ◌∷◌, refl}
-use Rattle.std.specs.Prelude.{Some, None, pos, codes}
+use Rattle.std.specs.Prelude.{Some, pos, codes}
 use Rattle.cp_plain.specs.declared.program.Argument.TheVariants.{Variable, Integer}
 use Rattle.cp_plain.specs.declared.program.Goal.TheVariants.{Newline, Write, Assert, Retract}
-use Rattle.cp_plain.specs.Tokens.{tokens}
-use Rattle.cp_plain.specs.Source.{Source, named, number, asserts, retracts, writes, newline}
+use Rattle.cp_plain.specs.Tokens.{word, functor, integer, unknown, tokens}
+use Rattle.cp_plain.specs.Source.{is_operator, is_builtin, builtins_of, Source, named, number, asserts, retracts, writes, newline}
 use Rattle.cp_plain.specs.Program.{IsPlainFile}
 
 abbrev first_text : List ℕ
@@ -23,6 +23,7 @@ first_is_plain : IsPlainFile first_text (record {
   concurrent = Some (record { name = codes "q"; arity = 1 });
   goals = Assert (Integer (pos 1) ∷ []) ∷ Retract (Variable 0 ∷ []) ∷ Write (Variable 0) ∷ Newline ∷ [];
 })
+unfolding tokens is_operator is_builtin builtins_of
 first_is_plain = record {
   source = first_source;
   reads = refl;
@@ -31,8 +32,10 @@ first_is_plain = record {
 }
 
 -- a full stop with another character behind it, a tab and a float are no tokens of a plain file
-no_float : tokens (codes "write(1.5)") ≡ None
+no_float : tokens (codes "write(1.5)") ≡ functor (codes "write") ∷ integer 1 ∷ unknown ∷ []
+unfolding tokens
 no_float = refl
 
-no_tab : tokens (codes "main\t:- nl.") ≡ None
+no_tab : tokens (codes "main\t:- nl.") ≡ word (codes "main") ∷ unknown ∷ []
+unfolding tokens
 no_tab = refl

@@ -1,7 +1,7 @@
 -- Resolution (ISO/IEC 13211-1, 7.7) for the goal of a plain file. Such a file has one clause, `main :- ..`, whose goals are
 -- called from left to right. None of them can fail, and a goal that is started is asked for one answer. So nothing is
 -- backtracked into, and what a further answer would be is not said here.
-use Rattle.std.specs.Prelude.{ℕ, zero, suc, ◌+◌, ◌≤◌, List, [], ◌∷◌, ◌++◌, length, map, Option, Some, None, codes, decimal, ℤ, pos}
+use Rattle.std.specs.Prelude.{ℕ, zero, suc, ◌+◌, ◌≤◌, List, [], ◌∷◌, length, map, Option, Some, None, codes, pos}
 use Rattle.std.specs.Fmt.{signed_decimal}
 use Rattle.std.specs.List.{flat_map}
 use Rattle.std.proofs.Common.{lit≤}
@@ -11,10 +11,8 @@ use Rattle.cp_term.specs.Numbering.{canon, fresh, next_variable}
 use Rattle.cp_term.specs.Substitution.{Substitution, apply}
 use Rattle.cp_term.specs.Unification.{unify}
 use Rattle.cp_call.specs.declared.call.Call.TheVariants as call
-use Rattle.cp_call.specs.declared.call.Reply.{Reply}
 use Rattle.cp_call.specs.declared.call.Reply.TheVariants as reply
 use Rattle.cp_call.specs.declared.item.PutReply.TheVariants as put
-use Rattle.cp_call.specs.declared.item.How.{How}
 use Rattle.cp_call.specs.declared.item.How.TheVariants as how
 use Rattle.cp_call.specs.declared.item.Next.{Next}
 use Rattle.cp_call.specs.declared.item.Next.TheVariants as next

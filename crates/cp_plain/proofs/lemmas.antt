@@ -1,0 +1,10 @@
+pub mod LexerLaws
+pub mod VariableLaws
+pub mod CommaLaws
+pub mod NameLaws
+pub mod GoalLaws
+pub mod LoopLaws
+pub mod GoalLoopLaws
+pub mod FileLaws
+pub mod WellFormedLaws
+pub mod FactLaws

@@ -1,0 +1,6 @@
+use Rattle.std.proofs.Common.{rules}
+use Rattle.cp_turn.proofs.Turns.{parks}
+use Rattle.cp_turn.proofs.turn.park.Goals as goal
+
+pub store-requires : goal.store-requires
+store-requires g c = (search rules, search rules, parks _ _ _ _ _ _ _ _ _ _ c.parking_word-word.ensures.within.0)
