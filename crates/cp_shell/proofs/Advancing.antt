@@ -8,7 +8,7 @@ use Rattle.cp_call.specs.declared.item.Input.{Input}
 use Rattle.cp_call.specs.Machine.{IsInForm}
 use Rattle.cp_call.specs.Life as life
 use Rattle.cp_shell.specs.declared.stage.Stage.{Stage}
-use Rattle.cp_shell.specs.Stage.{IsAt, IsRunningGoal, stage_with}
+use Rattle.cp_shell.specs.Stage.{IsAt, stage_with}
 
 at_stage : (rule : life.Rule) (objects : ℕ) (continuation : List Input → Next) (failed : Bool) (number : ℤ) (goal : List Cell) (inputs : List Input) (n : Next)
     → n ≡ continuation [] → ((more : List Input) → continuation more ≡ rule goal (inputs ++ more)) → failed ≡ false → IsInForm objects n

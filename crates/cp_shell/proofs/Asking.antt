@@ -1,6 +1,6 @@
 -- What asking an object adds for an engine.
-use Rattle.std.proofs.Common.{◌≡◌, ◌≢◌, ◌⊎◌, inl, inr, ℕ, ◌<◌, ◌++◌, List, [], ◌∷◌, length, refl, sym, ◌∙◌, ap, subst, Option, Some, None, Bool}
-use Rattle.std.specs.Prelude.{slice_get, MatchOption, min}
+use Rattle.std.proofs.Common.{◌≡◌, ◌≢◌, inl, inr, ℕ, ◌<◌, ◌++◌, List, [], ◌∷◌, length, refl, sym, ◌∙◌, ap, subst, Option, Some, None}
+use Rattle.std.specs.Prelude.{slice_get, MatchOption}
 use Rattle.std.proofs.lemmas.Bool.Decides.{eqb_tells}
 use Rattle.cp_list.specs.Lists.{IsPrefix}
 use Rattle.cp_call.specs.declared.asked.Asked.{Asked}
@@ -12,7 +12,7 @@ use Rattle.cp_call.specs.declared.item.Item.{Item}
 use Rattle.cp_call.specs.declared.item.Item.TheVariants as item
 use Rattle.cp_call.specs.declared.outcome.OutEntry.{OutEntry}
 use Rattle.cp_call.specs.Asker.{entry_added, IsFullBy, IsStill}
-use Rattle.cp_call.specs.Added.{HasAdded, AsksForOne}
+use Rattle.cp_call.specs.Added.{HasAdded}
 use Rattle.cp_call.specs.Sound.{Object, own_entries}
 use Rattle.cp_call.proofs.Adding.{HasAdded-asked, HasAdded-unanswered}
 use Rattle.cp_call.proofs.Growing.{append_nil}

@@ -1,6 +1,5 @@
 -- Nothing is changed for anybody where nothing is asked and nothing written.
-use Rattle.std.proofs.Common.{◌≡◌, ℕ, List, [], ◌++◌, ◌∷◌, refl, ap, Bool}
-use Rattle.cp_list.specs.Lists.{IsPrefix}
+use Rattle.std.proofs.Common.{ℕ, List, refl, Bool}
 use Rattle.cp_call.specs.declared.call.Entry.{Entry}
 use Rattle.cp_call.specs.declared.outcome.OutEntry.{OutEntry}
 use Rattle.cp_call.specs.Added.{AsksForOne, WritesForOne}

@@ -41,10 +41,7 @@ pub fn make_event<M: Machine, A: Asker, P: Writer>(
 {
     match stage {
         Stage::Idle => look(alloc, machine, number, items, asker),
-        Stage::Ends {
-            number: goal,
-            end,
-        } => end_goal(alloc, goal, end, number, items, asker),
+        Stage::Ends { number: goal, end } => end_goal(alloc, goal, end, number, items, asker),
         Stage::Runs {
             number: goal,
             request: Next::Ask { object, call },

@@ -1,7 +1,6 @@
 //! An engine's life: its shell asks what its goal asks, one event after another, and keeps what was answered.
 #![tactic(auto)]
 
-
 mod advance;
 mod ask;
 mod ask_goal;

@@ -36,11 +36,7 @@ fn is_parked(reply: &Reply) -> bool
 pub(crate) fn forget(_call: Call) {}
 
 /// Begins the goal that was found, if one was.
-fn found<M: Machine>(
-    alloc: Global,
-    machine: &mut M,
-    reply: Reply,
-) -> Result<Stage, AllocError>
+fn found<M: Machine>(alloc: Global, machine: &mut M, reply: Reply) -> Result<Stage, AllocError>
     ensures code { M.code machine.new ≡ M.code machine.old }
     ensures at { IfOk result (IsAt (M.Rule.asks (M.code machine.old)) (M.Rule.objects (M.code machine.old)) (M.continuation machine.new) (M.failed machine.new) (life.replied (M.Rule.asks (M.code machine.old)) life.Idle reply)) }
 {
@@ -119,7 +115,11 @@ pub(crate) fn answered<M: Machine>(
             parked: Some(object),
         }),
         Some(reply) => {
-            let parked = if is_parked(&reply) { Some(object) } else { None };
+            let parked = if is_parked(&reply) {
+                Some(object)
+            } else {
+                None
+            };
             let stage = replied(alloc, machine, number, object, call, reply)?;
             Ok(Turn { stage, parked })
         }

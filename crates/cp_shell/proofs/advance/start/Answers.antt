@@ -1,4 +1,4 @@
-use Rattle.std.proofs.Common.{◌≡◌, ap, refl, sym, ◌∙◌, []}
+use Rattle.std.proofs.Common.{ap, sym, ◌∙◌, []}
 use Rattle.std.proofs.Common.{w64}
 use Rattle.std.proofs.lemmas.Int.{to_z-of_z}
 use Rattle.cp_shell.specs.Stage.{stage_with}

@@ -1,4 +1,4 @@
-use Rattle.std.proofs.Common.{◌≡◌, inr, ℕ, List, [], ◌∷◌, ◌++◌, sym, ◌∙◌, ap}
+use Rattle.std.proofs.Common.{inr, [], ◌++◌, sym, ◌∙◌, ap}
 use Rattle.cp_call.proofs.Adding.{HasAdded-none}
 use Rattle.cp_shell.specs.Asked.{event_of}
 use Rattle.cp_shell.proofs.Asking.{added_by_copy, nothing}

@@ -1,4 +1,4 @@
-use Rattle.std.proofs.Common.{◌≡◌, [], refl, ◌∙◌, sym, ap, subst, w64, rules}
+use Rattle.std.proofs.Common.{[], refl, ◌∙◌, sym, ap, subst, w64, rules}
 use Rattle.std.proofs.lemmas.Int.{to_z-of_z}
 use Rattle.cp_shell.specs.Stage.{IsAt}
 use Rattle.cp_call.specs.Life as life

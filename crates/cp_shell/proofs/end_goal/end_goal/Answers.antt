@@ -1,4 +1,4 @@
-use Rattle.std.proofs.Common.{◌≡◌, ◌∙◌, ap, length, subst, w64, to_z, of_z}
+use Rattle.std.proofs.Common.{◌∙◌, ap, length, subst, w64, to_z, of_z}
 use Rattle.std.proofs.lemmas.Int.{to_z-of_z}
 use Rattle.cp_call.specs.Life as life
 use Rattle.cp_shell.specs.Stage.{IsAt}

@@ -1,4 +1,3 @@
-use Rattle.std.proofs.Common.{◌≡◌}
 use Rattle.cp_shell.proofs.Turning.{if_ok2, turned_by_look}
 use Rattle.cp_shell.proofs.look.look.Goals as goal
 

@@ -1,4 +1,4 @@
-use Rattle.std.proofs.Common.{◌≡◌, ap, sym, subst, w64, rules, [], ◌++◌, ◌∷◌}
+use Rattle.std.proofs.Common.{subst, w64, rules, [], ◌++◌, ◌∷◌}
 use Rattle.std.proofs.lemmas.Int.{to_z-of_z}
 use Rattle.cp_call.specs.Life as life
 use Rattle.cp_call.specs.declared.item.Input.TheVariants as input
