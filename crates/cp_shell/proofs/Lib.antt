@@ -1,0 +1,5 @@
+pub mod Asking
+pub mod Advancing
+pub mod Replying
+pub mod Turning
+pub mod Staying

@@ -1,0 +1,7 @@
+use Rattle.cp_shell.proofs.Turning.{if_ok2, turned_by_look}
+use Rattle.cp_shell.proofs.look.look.Goals as goal
+
+pub returns-clause-turned : goal.returns-clause-turned
+returns-clause-turned g c = if_ok2 c.looked.result c.looked.ensures.at c.looked.ensures.parked (λ turn at parked.
+    turned_by_look _ _ (g.A.Asker.objects c.args.asker.now) _ _ c.args.items.now.items _ _ c.args.number c.in_ok-any_term.field-0 c.in_ok-asked.field-0 _ _
+    c.in_ok-any_term.ensures c.requires.at c.requires.objects c.in_ok-asked.ensures.replied c.in_ok-asked.ensures.still at parked)
