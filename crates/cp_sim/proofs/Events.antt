@@ -1,5 +1,5 @@
 -- A worker is driven on by an event.
-use Rattle.std.proofs.Common.{◌≡◌, ◌≢◌, ℕ, Bool, List, [], ◌∷◌, ◌++◌, length, refl, sym, ◌∙◌, ap, subst}
+use Rattle.std.proofs.Common.{◌≡◌, ℕ, Bool, List, ◌++◌, sym, ◌∙◌, subst}
 use Rattle.std.specs.Prelude.{Option}
 use Rattle.cp_call.specs.declared.call.Entry.{Entry}
 use Rattle.cp_call.specs.declared.item.Item.{Item}
@@ -9,7 +9,7 @@ use Rattle.cp_call.specs.declared.outcome.OutEntry.{OutEntry}
 use Rattle.cp_call.specs.Added.{HasAdded, AsksForOne, WritesForOne}
 use Rattle.cp_call.specs.Life as life
 use Rattle.cp_call.specs.Running.{IsRunning}
-use Rattle.cp_call.specs.Sound.{Object, Agrees, own_entries}
+use Rattle.cp_call.specs.Sound.{Object, Agrees}
 use Rattle.cp_call.proofs.Adding.{Agrees-added, IsPrefix_trans}
 use Rattle.cp_shell.specs.declared.stage.Stage.{Stage}
 use Rattle.cp_shell.specs.Turn.{HasTurned}

@@ -1,5 +1,5 @@
 -- A worker between two of its events.
-use Rattle.std.specs.Prelude.{◌≡◌, ℕ, Bool, List, [], length}
+use Rattle.std.specs.Prelude.{ℕ, Bool, List, length}
 use Rattle.cp_call.specs.declared.call.Entry.{Entry}
 use Rattle.cp_call.specs.declared.item.Item.{Item}
 use Rattle.cp_call.specs.declared.item.Input.{Input}

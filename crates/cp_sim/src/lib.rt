@@ -2,5 +2,9 @@
 #![tactic(auto)]
 
 mod driving;
+mod end;
+mod simulate;
 
 pub use driving::drive;
+pub use end::SimEnd;
+pub use simulate::simulate_one;

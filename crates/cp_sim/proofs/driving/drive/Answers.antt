@@ -1,4 +1,4 @@
-use Rattle.std.proofs.Common.{◌≡◌, ◌≤◌, ◌∙◌, sym, ap, subst, length, IsTrue}
+use Rattle.std.proofs.Common.{◌≤◌, ◌∙◌, sym, ap, subst, length, IsTrue}
 use Rattle.cp_sim.proofs.Events.{driven_on, asks_on, writes_on, running_as, driven_as}
 use Rattle.cp_sim.proofs.driving.drive.Goals as goal
 
