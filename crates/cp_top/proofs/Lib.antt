@@ -1,2 +1,3 @@
 pub mod CommandWords
 pub mod PlainObjects
+pub mod Telling

@@ -1,6 +1,5 @@
 -- How a run ended, as the status and the last line tell it.
 use Rattle.std.specs.Prelude.{◌≡◌, ℕ, ◌==◌, Bool, ◌&&◌, cond, pos, List, [], ◌∷◌, ◌++◌, Option, Some, None, codes, decimal, slice_get}
-use Rattle.std.specs.List.{flat_map}
 use Rattle.std.specs.Ordering.{int_eq}
 use Rattle.std.specs.Str.{bytes_eq}
 use Rattle.cp_term.specs.declared.cell.Cell.{Cell}
@@ -10,10 +9,10 @@ use Rattle.cp_call.specs.declared.call.ObjectName.TheVariants as name
 use Rattle.cp_call.specs.declared.outcome.FactRow.{FactRow}
 use Rattle.cp_call.specs.declared.outcome.PredEnd.{PredEnd}
 use Rattle.cp_call.specs.declared.outcome.EngineEnd.{EngineEnd}
-use Rattle.cp_call.specs.declared.outcome.OutEntry.{OutEntry}
 use Rattle.cp_call.specs.declared.outcome.Stand.{Stand}
 use Rattle.cp_call.specs.declared.outcome.Stand.TheVariants as stand
 use Rattle.cp_call.specs.declared.outcome.Outcome.{Outcome}
+use Rattle.cp_top.specs.declared.ending.RunEnd.{RunEnd}
 
 -- a status with the last line
 pub record Ending : Type 0 where
@@ -72,6 +71,6 @@ ending_with None o = suspended o.preds o.engines
 abbrev pub ending_of : Outcome → Option Ending
 ending_of o = ending_with (how_among (facts_of (slice_get o.preds 1))) o
 
--- the pieces that were written on the port, one after another
-abbrev pub pieces : List OutEntry → List ℕ
-pieces port = flat_map (λ (w : OutEntry). w.bytes) port
+-- an ending in memory, as it is meant
+abbrev pub shown : RunEnd → Ending
+shown e = record { status = e.status; line = e.line.items }

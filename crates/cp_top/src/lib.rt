@@ -3,7 +3,11 @@
 
 mod ending;
 mod line;
+mod local;
 mod program;
+mod say;
+mod tell;
 mod words;
 
+pub use local::LocalEnd;
 pub use words::Words;
