@@ -90,3 +90,23 @@ pub record IsFetched (tree : Option Tree) (name : List ℕ) (faults faults_now m
   pub no_fault : (f ≡ fetched.Fault → ⊥) → faults_now ≡ faults
   pub missing : f ≡ fetched.Missing → Rose misses misses_now
   pub not_missing : (f ≡ fetched.Missing → ⊥) → misses_now ≡ misses
+
+-- The words are no command of this call, and nothing is done.
+pub record IsUsageEnd (words : List (List ℕ)) (status : ℕ) (outcome : Option Outcome) (count : ℕ) (before held : Option (List ℕ)) : Type 0 where
+  pub none : (name : List ℕ) → IsSim words name → ⊥
+  pub ending : IsShort status outcome ⊎ IsRefusal 64 usage_line status outcome count before held
+
+-- The words are `sim` and the name of a file, which was fetched once.
+pub record IsSimEnd (words : List (List ℕ)) (tree : Option Tree) (faults faults_now misses misses_now status : ℕ) (outcome : Option Outcome) (count : ℕ) (before held : Option (List ℕ)) : Type 0 where
+  pub name : List ℕ
+  pub sim : IsSim words name
+  pub fetched : Fetched
+  pub is_fetched : IsFetched tree name faults faults_now misses misses_now fetched
+  pub ending : IsFileEnd name fetched status outcome count before held
+
+-- how the top call ends
+abbrev pub IsTopEnd : (words : List (List ℕ)) → Option Tree → (faults faults_now misses misses_now status : ℕ) → Option Outcome → (count : ℕ) → (before held : Option (List ℕ)) → Type 0
+IsTopEnd words tree faults faults_now misses misses_now status outcome count before held =
+    IsShort status outcome
+    ⊎ IsUsageEnd words status outcome count before held
+    ⊎ IsSimEnd words tree faults faults_now misses misses_now status outcome count before held

@@ -9,5 +9,5 @@ mod say;
 mod tell;
 mod words;
 
-pub use local::LocalEnd;
+pub use local::{LocalEnd, local_top};
 pub use words::Words;

@@ -3,7 +3,7 @@ ghost use Rattle.cp_io.specs.declared.files.Fetched.{Fetched};
 ghost use Rattle.cp_plain.specs.declared.program.PlainProgram.{PlainProgram};
 ghost use Rattle.cp_plain.specs.Program.{IsPlainFile, IsNoPlainFile};
 ghost use Rattle.cp_top.specs.Words.{IsSim};
-ghost use Rattle.cp_top.specs.Written.{IsFetched, IsFileEnd, IsTextEnd, IsRefusal, IsShort, usage_line, file_line, refused_line};
+ghost use Rattle.cp_top.specs.Written.{IsFetched, IsFileEnd, IsTextEnd, IsRefusal, IsShort, IsTopEnd, usage_line, file_line, refused_line};
 
 use crate::line::{file_line, refused_line};
 use crate::say::say;
@@ -71,5 +71,60 @@ fn run_fetched<S: Sink>(alloc: Global, name: &[u8], fetched: Fetched, out: S) ->
             }
             run_text(alloc, name, text.as_slice(), out)
         }
+    }
+}
+
+/// Fetches a file.
+fn fetch<F: Files>(files: &mut F, name: &[u8]) -> Result<Fetched, AllocError>
+    ensures { IfOk result (IsFetched (F.tree files.old) name.now (F.faults files.old) (F.faults files.new) (F.misses files.old) (F.misses files.new)) }
+{
+    files.fetch(name, LIMIT)
+}
+
+/// The line for words that are no command.
+fn usage(alloc: Global) -> Result<Vec<u8>, AllocError>
+    ensures { IfOk result (λ line. line.items ≡ usage_line) }
+{
+    Vec::from_slice(alloc, b"{USAGE}\n")
+}
+
+fn ended<F: Files, S: Sink>(told: Told<S>, files: F) -> LocalEnd<F, S>
+    ensures { result ≡ record { status = told.status; outcome = told.outcome; files = files; out = told.out } }
+{
+    let Told {
+        status,
+        outcome,
+        out,
+    } = told;
+    LocalEnd {
+        status,
+        outcome,
+        files,
+        out,
+    }
+}
+
+/// Does what the words after the program's name say, with these files and this sink, which has not failed yet.
+///
+/// The words `sim FILE` run a plain file on one engine with a budget of 100,000 steps; every other list of words ends with
+/// 64 and `{USAGE}`. A file that cannot be fetched or has more than 1,048,576 bytes ends with 66, and one that is no plain
+/// file with 65. A run ends with 0, or with 3 where goal 1 is suspended, and with 74 where the sink failed. 70 stands for
+/// want of memory.
+pub fn local_top<F: Files, S: Sink>(
+    alloc: Global,
+    words: &Words,
+    files: F,
+    out: S,
+) -> LocalEnd<F, S>
+    requires { S.faults out ≡ 0 }
+    ensures { IsTopEnd words.now (F.tree files) (F.faults files) (F.faults result.files) (F.misses files) (F.misses result.files) result.status result.outcome (S.faults result.out) (S.held out) (S.held result.out) }
+{
+    let mut files = files;
+    match file_of(words) {
+        None => ended(refuse(64, usage(alloc), out), files),
+        Some(name) => match fetch(&mut files, name) {
+            Err(_) => ended(short(out), files),
+            Ok(fetched) => ended(run_fetched(alloc, name, fetched, out), files),
+        },
     }
 }
