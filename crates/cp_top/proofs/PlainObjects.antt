@@ -1,6 +1,5 @@
 -- The objects of a plain file's run, before anybody has asked them.
-use Rattle.std.proofs.Common.{◌≡◌, ℕ, zero, suc, ◌≤◌, List, [], ◌∷◌, length, refl, Option, Some, None, lit≤}
-use Rattle.std.specs.Prelude.{slice_get}
+use Rattle.std.proofs.Common.{◌≡◌, ℕ, zero, suc, ◌≤◌, List, [], length, refl, Option, Some, None, lit≤}
 use Rattle.cp_plain.specs.declared.program.PlainProgram.{PlainProgram}
 use Rattle.cp_plain.specs.declared.program.Concurrent.{Concurrent}
 use Rattle.cp_plain_engine.specs.Resolution.{objects_of as count_of}

@@ -1,19 +1,15 @@
 -- What was written, by what the port and the last line wrote.
-use Rattle.std.proofs.Common.{◌≡◌, ◌⊎◌, inl, inr, ℕ, zero, suc, ◌+◌, ◌<◌, ◌≤◌, List, [], ◌∷◌, ◌++◌, length, take, refl, sym, ◌∙◌, ap, subst, append_assoc, Bool, true, false, Option, Some, None, arith}
-use Rattle.std.specs.Prelude.{min, ◌^◌, ◌-◌, IsSomeAnd, IfSome}
-use Rattle.std.specs.Option.{option_map}
+use Rattle.std.proofs.Common.{◌≡◌, ℕ, zero, suc, ◌+◌, ◌<◌, ◌≤◌, List, [], ◌∷◌, ◌++◌, length, take, refl, sym, ◌∙◌, ap, subst, append_assoc, true, false, Option, Some, None, arith}
+use Rattle.std.specs.Prelude.{min, ◌^◌, ◌-◌}
 use Rattle.std.proofs.Math.Seq.{take-append_seam, take-append-add}
 use Rattle.cp_list.specs.Lists.{IsPrefix}
 use Rattle.cp_io.specs.Cause.{Rose}
 use Rattle.cp_call.specs.declared.outcome.OutEntry.{OutEntry}
 use Rattle.cp_call.specs.declared.outcome.Outcome.{Outcome}
-use Rattle.cp_out.specs.Port.{Records, GrewTo, HasGrown, any_failed, pieces, written, broken_piece}
+use Rattle.cp_out.specs.Port.{GrewTo, HasGrown, any_failed, pieces, written, broken_piece}
 use Rattle.cp_out.proofs.PortLaws.{grown-all, grown-prefix}
-use Rattle.cp_plain.specs.declared.program.PlainProgram.{PlainProgram}
-use Rattle.cp_top.specs.declared.ending.RunEnd.{RunEnd}
-use Rattle.cp_top.specs.Ending.{Ending, ending_of, shown}
-use Rattle.cp_top.specs.Program.{IsPlainRun}
-use Rattle.cp_top.specs.Written.{IsWritten, IsRunStatus, last_line, IsTold, IsToldRun, IsShort, IsRun}
+use Rattle.cp_top.specs.Ending.{Ending, ending_of}
+use Rattle.cp_top.specs.Written.{IsWritten, IsRunStatus, last_line, IsTold}
 
 -- a beginning of what was to be written was written, where the count rose
 begun : (before bytes now : List ℕ) (count : ℕ) → IsPrefix now (before ++ bytes) → IsPrefix before now → 0 < count → IsWritten (Some before) bytes count (Some now)

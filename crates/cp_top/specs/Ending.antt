@@ -1,9 +1,9 @@
 -- How a run ended, as the status and the last line tell it.
-use Rattle.std.specs.Prelude.{◌≡◌, ℕ, ◌==◌, Bool, ◌&&◌, cond, pos, List, [], ◌∷◌, ◌++◌, Option, Some, None, codes, decimal, slice_get}
+use Rattle.std.specs.Prelude.{ℕ, ◌==◌, ◌&&◌, cond, pos, List, [], ◌∷◌, ◌++◌, Option, Some, None, codes, decimal, slice_get}
 use Rattle.std.specs.Ordering.{int_eq}
 use Rattle.std.specs.Str.{bytes_eq}
 use Rattle.cp_term.specs.declared.cell.Cell.{Cell}
-use Rattle.cp_term.specs.declared.cell.Cell.TheVariants.{Var, Int, Atom, Func}
+use Rattle.cp_term.specs.declared.cell.Cell.TheVariants.{Int, Atom, Func}
 use Rattle.cp_call.specs.declared.call.ObjectName.{ObjectName}
 use Rattle.cp_call.specs.declared.call.ObjectName.TheVariants as name
 use Rattle.cp_call.specs.declared.outcome.FactRow.{FactRow}

@@ -1,5 +1,5 @@
 -- What a run of a plain file's program is of.
-use Rattle.std.specs.Prelude.{◌≡◌, ℕ, Bool, false, List, [], ◌∷◌, ◌++◌, map, Option, Some, None}
+use Rattle.std.specs.Prelude.{ℕ, false, List, [], ◌∷◌, ◌++◌, map, Option, Some, None}
 use Rattle.cp_call.specs.declared.call.ObjectKind.TheVariants as kind
 use Rattle.cp_call.specs.declared.call.ObjectName.TheVariants as name
 use Rattle.cp_call.specs.declared.outcome.Outcome.{Outcome}

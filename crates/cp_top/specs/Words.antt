@@ -1,5 +1,5 @@
 -- The words of the command line.
-use Rattle.std.specs.Prelude.{◌≡◌, ℕ, ◌==◌, Bool, true, false, not, IsTrue, List, [], ◌∷◌, codes}
+use Rattle.std.specs.Prelude.{◌≡◌, ℕ, ◌==◌, Bool, false, not, IsTrue, List, [], ◌∷◌, codes}
 use Rattle.std.specs.Str.{IsUtf8}
 
 -- not empty, and not beginning with `-`

@@ -1,5 +1,5 @@
 -- What the top call wrote on a sink whose count of faults was 0, and how it ended.
-use Rattle.std.specs.Prelude.{◌≡◌, ◌⊎◌, ℕ, zero, suc, ◌<◌, Bool, true, false, cond, nat_lt, List, [], ◌∷◌, ◌++◌, length, take, Option, Some, None, IfSome, codes}
+use Rattle.std.specs.Prelude.{◌≡◌, ◌⊎◌, ℕ, zero, suc, ◌<◌, true, false, nat_lt, List, [], ◌++◌, length, take, Option, Some, None, IfSome, codes}
 use Rattle.cp_io.specs.Cause.{Rose}
 use Rattle.cp_io.specs.Content.{Tree, FetchedFrom}
 use Rattle.cp_io.specs.declared.files.Fetched.{Fetched}

@@ -25,12 +25,12 @@ fn name(alloc: Global, text: &[u8]) -> Result<Name, AllocError>
 }
 
 /// `M:main`.
-fn main_goal(alloc: Global, module: &Name) -> Result<Term, AllocError>
-    ensures { IfOk result (λ goal. goal ≡ main_of module.now) }
+fn main_goal(alloc: Global, module_name: &Name) -> Result<Term, AllocError>
+    ensures { IfOk result (λ goal. goal ≡ main_of module_name.now) }
 {
     let mut cells = Cells::new(alloc);
     cells.push(Cell::Func(name(alloc, b":")?, 2))?;
-    cells.push(Cell::Atom(module.clone()?))?;
+    cells.push(Cell::Atom(module_name.clone()?))?;
     cells.push(Cell::Atom(name(alloc, b"main")?))?;
     match Term::from_cells(cells) {
         Ok(goal) => Ok(goal),
@@ -39,11 +39,11 @@ fn main_goal(alloc: Global, module: &Name) -> Result<Term, AllocError>
 }
 
 /// The two lists of goals, with `M:main` to be done.
-fn lists_of(alloc: Global, module: &Name) -> Result<PlainHall, AllocError>
-    ensures { IfOk result (λ hall. hall ≡ fresh_lists module.now) }
+fn lists_of(alloc: Global, module_name: &Name) -> Result<PlainHall, AllocError>
+    ensures { IfOk result (λ hall. hall ≡ fresh_lists module_name.now) }
 {
     let mut goals = Terms::new(alloc);
-    goals.push(main_goal(alloc, module)?)?;
+    goals.push(main_goal(alloc, module_name)?)?;
     let mut hall = PlainHall::new(alloc);
     hall.add(ObjectName::Goals, ObjectKind::Goals, goals)?;
     hall.add(ObjectName::Ended, ObjectKind::Ended, Terms::new(alloc))?;
@@ -54,16 +54,16 @@ fn lists_of(alloc: Global, module: &Name) -> Result<PlainHall, AllocError>
 fn add_predicate(
     alloc: Global,
     hall: &mut PlainHall,
-    module: &Name,
+    module_name: &Name,
     concurrent: &Option<Concurrent>,
 ) -> Result<(), AllocError>
-    ensures { OnOk result (hall.new ≡ hall.old ++ fresh_pred module.now concurrent.now) }
+    ensures { OnOk result (hall.new ≡ hall.old ++ fresh_pred module_name.now concurrent.now) }
 {
     match concurrent {
         None => Ok(()),
         Some(predicate) => {
             let name = PredName {
-                module: module.clone()?,
+                module: module_name.clone()?,
                 name: predicate.name.clone()?,
                 arity: predicate.arity,
             };

@@ -1,4 +1,4 @@
-use Rattle.std.proofs.Common.{◌≡◌, inl, inr, sym, ◌∙◌, ap}
+use Rattle.std.proofs.Common.{inr, sym, ◌∙◌, ap}
 use Rattle.std.specs.Option.{option_map}
 use Rattle.cp_top.specs.Ending.{shown}
 use Rattle.cp_top.proofs.Telling.{told_failed, told_whole}

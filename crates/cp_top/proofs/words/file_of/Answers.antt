@@ -1,4 +1,4 @@
-use Rattle.std.proofs.Common.{◌≡◌, ◌∙◌, sym, ap, subst, rules, List, [], ◌∷◌}
+use Rattle.std.proofs.Common.{◌≡◌, ◌∙◌, sym, ap, subst, rules, [], ◌∷◌}
 use Rattle.std.specs.Prelude.{codes}
 use Rattle.cp_top.specs.Words.{IsSim, IsFileWord}
 use Rattle.cp_top.proofs.CommandWords.{two}
