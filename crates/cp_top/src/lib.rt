@@ -11,3 +11,6 @@ mod words;
 
 pub use local::{LocalEnd, local_top};
 pub use words::Words;
+
+#[cfg(test)]
+mod tests;
