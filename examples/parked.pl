@@ -1,0 +1,3 @@
+:- module(parked, [main/0]).
+:- concurrent q/1.
+main :- retract_fact(q(_)).
