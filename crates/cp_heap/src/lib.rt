@@ -1,0 +1,19 @@
+//! Terms at run time: a heap of terms that grows, with a substitution that can be taken back.
+#![tactic(auto)]
+
+mod bound;
+mod heap;
+mod look;
+mod mark;
+mod reference;
+mod word;
+
+pub use bound::Bound;
+pub use heap::Heap;
+pub use look::Look;
+pub use mark::Mark;
+pub use reference::Ref;
+pub use word::Word;
+
+#[cfg(test)]
+mod tests;
