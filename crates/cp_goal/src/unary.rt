@@ -1,5 +1,5 @@
 ghost use Rattle.std.specs.Prelude.{◌≡◌};
-ghost use Rattle.cp_arith.specs.Operations.{unary_named, unary_value};
+ghost use Rattle.cp_goal.specs.Operations.{unary_named, unary_value};
 
 use crate::exact::exact;
 use crate::fault::Fault;

@@ -1,5 +1,5 @@
 ghost use Rattle.std.specs.Prelude.{◌≡◌};
-ghost use Rattle.cp_arith.specs.Operations.{or_overflow, within};
+ghost use Rattle.cp_goal.specs.Operations.{or_overflow, within};
 
 use crate::fault::Fault;
 

@@ -3,12 +3,12 @@
 use Rattle.std.specs.Prelude.{ℕ, zero, suc, ◌^◌, nat_lt, Bool, true, false, ◌||◌, if◌then◌else◌, List, Option, Some, None, Result, Ok, Err, ℤ, pos, negsuc, neg_ℤ, ◌+ℤ◌, ◌-ℤ◌, ◌*ℤ◌, unsigned_abs, int_div, codes}
 use Rattle.std.specs.Int.{w64, int_min, int_max, int_signum, int_bit_and, int_bit_or, int_bit_not, int_shr, is_negative}
 use Rattle.std.specs.Str.{bytes_eq}
-use Rattle.cp_arith.specs.declared.fault.Fault.{Fault}
-use Rattle.cp_arith.specs.declared.fault.Fault.TheVariants.{ZeroDivisor, IntOverflow, Shift}
-use Rattle.cp_arith.specs.declared.unary.Unary.{Unary}
-use Rattle.cp_arith.specs.declared.unary.Unary.TheVariants.{Minus, Plus, Abs, Sign, Complement}
-use Rattle.cp_arith.specs.declared.binary.Binary.{Binary}
-use Rattle.cp_arith.specs.declared.binary.Binary.TheVariants.{Add, Subtract, Multiply, Divide, Rem, Mod, Min, Max, And, Or, ShiftLeft, ShiftRight}
+use Rattle.cp_goal.specs.declared.fault.Fault.{Fault}
+use Rattle.cp_goal.specs.declared.fault.Fault.TheVariants.{ZeroDivisor, IntOverflow, Shift}
+use Rattle.cp_goal.specs.declared.unary.Unary.{Unary}
+use Rattle.cp_goal.specs.declared.unary.Unary.TheVariants.{Minus, Plus, Abs, Sign, Complement}
+use Rattle.cp_goal.specs.declared.binary.Binary.{Binary}
+use Rattle.cp_goal.specs.declared.binary.Binary.TheVariants.{Add, Subtract, Multiply, Divide, Rem, Mod, Min, Max, And, Or, ShiftLeft, ShiftRight}
 
 -- ---- names
 

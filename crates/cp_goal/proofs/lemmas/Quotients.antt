@@ -3,7 +3,7 @@ use Rattle.std.proofs.Common.{◌≡◌, ◌∙◌, ℤ, ◌-ℤ◌, ◌*ℤ◌,
 use Rattle.std.specs.Prelude.{int_div, int_rem}
 use Rattle.std.proofs.Math.IntN.{+ℤ-neg_ℤ_cancel, +ℤ_comm}
 use Rattle.std.proofs.lemmas.Int.{quot-rem}
-use Rattle.cp_arith.specs.Operations.{rest}
+use Rattle.cp_goal.specs.Operations.{rest}
 
 pub rest_is : (a b : ℤ) → int_rem a b ≡ rest a b
 rest_is a b =

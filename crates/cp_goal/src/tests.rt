@@ -1,4 +1,4 @@
-use crate::{Binary, Fault, Unary};
+use crate::{Binary, Builtin, Fault, Relation, TypeTest, Unary};
 
 #[test]
 fn operations_have_exact_values_or_faults(rt: HostRuntime) {
@@ -26,4 +26,23 @@ fn names_name_operations(rt: HostRuntime) {
     assert_eq!(rt; Binary::named(b"/"), None);
     assert_eq!(rt; Unary::named(b"\\"), Some(Unary::Complement));
     assert_eq!(rt; Unary::named(b"mod"), None);
+}
+
+#[test]
+fn names_and_arities_name_goals(rt: HostRuntime) {
+    assert_eq!(rt;
+        Builtin::named(b"number", 1),
+        Some(Builtin::Is(TypeTest::Integer))
+    );
+    assert_eq!(rt;
+        Builtin::named(b"@<", 2),
+        Some(Builtin::InOrder(Relation::Less))
+    );
+    assert_eq!(rt;
+        Builtin::named(b"=<", 2),
+        Some(Builtin::InValue(Relation::NotGreater))
+    );
+    assert_eq!(rt; Builtin::named(b"is", 2), Some(Builtin::Evaluate));
+    assert_eq!(rt; Builtin::named(b"functor", 3), Some(Builtin::Functor));
+    assert_eq!(rt; Builtin::named(b"functor", 2), None);
 }

@@ -1,5 +1,5 @@
 ghost use Rattle.std.specs.Prelude.{◌≡◌, ◌≢◌, ◌<◌, ◌^◌, ◌*ℤ◌, pos};
-ghost use Rattle.cp_arith.specs.Operations.{binary_named, binary_named_by_order_or_bits, binary_value, places, quotient, remainder, modulo, rest, signed_as, shifted_left, shifted_right};
+ghost use Rattle.cp_goal.specs.Operations.{binary_named, binary_named_by_order_or_bits, binary_value, places, quotient, remainder, modulo, rest, signed_as, shifted_left, shifted_right};
 
 use crate::exact::{exact, narrow};
 use crate::fault::Fault;
