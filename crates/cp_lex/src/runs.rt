@@ -1,0 +1,57 @@
+ghost use Rattle.std.specs.Prelude.{◌≡◌, ◌≤◌, length};
+ghost use Rattle.cp_char.specs.Characters.{run, is_symbol, is_layout, is_alphanumeric};
+ghost use Rattle.cp_lex.specs.Lexical.{goes_on};
+
+use cp_char::{is_alphanumeric, is_layout, is_symbol};
+
+/// How many bytes at the front are layout.
+pub(crate) fn layout_len(text: &[u8]) -> usize
+    ensures value { result ≡ run is_layout text.now }
+    ensures within { result ≤ length text.now }
+{
+    for (at, b) in text.iter().enumerate() {
+        if !is_layout(*b) {
+            return at;
+        }
+    }
+    text.len()
+}
+
+/// How many bytes there are up to the end of the line.
+pub(crate) fn line_len(text: &[u8]) -> usize
+    ensures value { result ≡ run goes_on text.now }
+    ensures within { result ≤ length text.now }
+{
+    for (at, b) in text.iter().enumerate() {
+        if *b == b'\n' {
+            return at;
+        }
+    }
+    text.len()
+}
+
+/// How many bytes at the front are letters, digits or underscores.
+pub(crate) fn name_len(text: &[u8]) -> usize
+    ensures value { result ≡ run is_alphanumeric text.now }
+    ensures within { result ≤ length text.now }
+{
+    for (at, b) in text.iter().enumerate() {
+        if !is_alphanumeric(*b) {
+            return at;
+        }
+    }
+    text.len()
+}
+
+/// How many bytes at the front are symbol characters.
+pub(crate) fn symbols_len(text: &[u8]) -> usize
+    ensures value { result ≡ run is_symbol text.now }
+    ensures within { result ≤ length text.now }
+{
+    for (at, b) in text.iter().enumerate() {
+        if !is_symbol(*b) {
+            return at;
+        }
+    }
+    text.len()
+}
