@@ -12,9 +12,6 @@ use Rattle.cp_lex.specs.declared.quoted.Part.{Part}
 use Rattle.cp_lex.specs.declared.quoted.Quoted.{Quoted}
 use Rattle.cp_lex.specs.declared.quoted.Quoted.TheVariants.{Closed, BadAt, Unended}
 
-abbrev pub begins_with_backslash : List ℕ → Bool
-begins_with_backslash text = first text == backslash
-
 -- A character by number: digits of a base, at least one, and a closing backslash. So many bytes stand between the opening
 -- backslash and the digits. Without digits or the closing backslash the opening one alone is no escape; where the number is
 -- no character, all of it is.
@@ -22,7 +19,7 @@ abbrev pub by_number : ℕ → ℕ → List ℕ → Escape
 by_number skipped base text =
     let n = run (λ c. is_digit c base) text in
     let c = digits_value base (take n text) in
-    if n == 0 || not (begins_with_backslash (drop n text)) then Bad 0
+    if n == 0 || not (first (drop n text) == backslash) then Bad 0
     else if scalar c then Character c (skipped + n + 1) else Bad (skipped + n + 1)
 
 abbrev pub is_escaped_sign : ℕ → Bool
@@ -42,7 +39,7 @@ by_letter c =
     else Bad 0
 
 abbrev pub continues_octal : List ℕ → Bool
-continues_octal text = is_octal (first text) || begins_with_backslash text
+continues_octal text = first text == backslash || is_octal (first text)
 
 -- the escape at the front of the bytes behind a backslash
 abbrev pub escape : List ℕ → Escape

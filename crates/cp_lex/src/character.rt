@@ -1,9 +1,11 @@
 ghost use Rattle.std.specs.Prelude.{◌≡◌};
+ghost use Rattle.cp_lex.specs.Quoted.{escape};
 ghost use Rattle.cp_lex.specs.Lexical.{character, escaped_character, quote_character, plain_character};
 
 use crate::error::LexWhy;
 use crate::escape::{Escape, escape_at};
 use crate::piece::Piece;
+use crate::runs::begins_with;
 use crate::token::TokenKind;
 
 /// The integer of the character at the front of a text, which stands behind `0'`.
@@ -14,7 +16,7 @@ pub(crate) fn character(text: &[u8]) -> Piece
         return Piece::Refused(LexWhy::StrayByte, 0);
     };
     if first == b'\\' {
-        escaped_character(escape_at(rest))
+        escaped_character(rest)
     } else if first == b'\'' {
         quote_character(rest)
     } else {
@@ -22,11 +24,11 @@ pub(crate) fn character(text: &[u8]) -> Piece
     }
 }
 
-/// An escape behind `0'`.
-fn escaped_character(escape: Escape) -> Piece
-    ensures { result ≡ escaped_character escape }
+/// An escape behind `0'` and a backslash.
+fn escaped_character(rest: &[u8]) -> Piece
+    ensures { result ≡ escaped_character (escape rest.now) }
 {
-    match escape {
+    match escape_at(rest) {
         Escape::Bad(_) => Piece::Refused(LexWhy::BadEscape, 2),
         Escape::Character(c, len) => Piece::Token(TokenKind::Int(u64::from(c)), 3 + len),
         Escape::Newline => Piece::Refused(LexWhy::StrayByte, 0),
@@ -37,9 +39,10 @@ fn escaped_character(escape: Escape) -> Piece
 fn quote_character(rest: &[u8]) -> Piece
     ensures { result ≡ quote_character rest.now }
 {
-    match rest.first() {
-        Some(b'\'') => Piece::Token(TokenKind::Int(39), 4),
-        _ => Piece::Refused(LexWhy::StrayByte, 0),
+    if begins_with(rest, b'\'') {
+        Piece::Token(TokenKind::Int(u64::from(b'\'')), 4)
+    } else {
+        Piece::Refused(LexWhy::StrayByte, 0)
     }
 }
 

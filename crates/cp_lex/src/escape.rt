@@ -1,9 +1,10 @@
 ghost use Rattle.std.specs.Prelude.{◌≡◌, ◌+◌, ◌<◌, ◌≤◌, length, Some, None, if◌then◌else◌};
 ghost use lib.Utf8.{scalar};
-ghost use Rattle.cp_char.specs.Characters.{is_octal};
-ghost use Rattle.cp_lex.specs.Quoted.{by_number, by_letter, escape, is_escaped_sign, continues_octal, begins_with_backslash, IsEscapeWithin};
+ghost use Rattle.cp_char.specs.Characters.{first, is_octal};
+ghost use Rattle.cp_lex.specs.Quoted.{by_number, by_letter, escape, is_escaped_sign, continues_octal, IsEscapeWithin};
 
 use crate::digits::{digits_len, is_digit, number_of};
+use crate::runs::begins_with;
 
 /// What the bytes behind a backslash are.
 #[derive(Clone, Copy)]
@@ -41,8 +42,14 @@ pub(crate) fn escape_at(text: &[u8]) -> Escape
 fn continues_octal(text: &[u8]) -> bool
     ensures { result ≡ continues_octal text.now }
 {
+    begins_with(text, b'\\') || begins_with_octal(text)
+}
+
+fn begins_with_octal(text: &[u8]) -> bool
+    ensures { result ≡ is_octal (first text.now) }
+{
     match text.first() {
-        Some(c) => is_digit(*c, 8) || *c == b'\\',
+        Some(c) => is_digit(*c, 8),
         None => false,
     }
 }
@@ -57,21 +64,12 @@ fn by_number(skipped: usize, base: u64, text: &[u8]) -> Escape
 {
     let len = digits_len(base, text);
     let (digits, rest) = text.split_at(len);
-    if len == 0 || !begins_with_backslash(rest) {
+    if len == 0 || !begins_with(rest, b'\\') {
         return Escape::Bad(0);
     }
     match character_of(number_of(base, digits)) {
         Some(c) => Escape::Character(c, skipped + len + 1),
         None => Escape::Bad(skipped + len + 1),
-    }
-}
-
-fn begins_with_backslash(text: &[u8]) -> bool
-    ensures value { result ≡ begins_with_backslash text.now }
-{
-    match text.first() {
-        Some(c) => *c == b'\\',
-        None => false,
     }
 }
 

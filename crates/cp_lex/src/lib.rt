@@ -2,11 +2,11 @@
 #![tactic(auto)]
 
 mod before;
+mod character;
 mod comment;
+mod digits;
 mod error;
 mod escape;
-mod character;
-mod digits;
 mod number;
 mod piece;
 mod quoted;
@@ -19,3 +19,6 @@ mod word;
 pub use error::{LexError, LexWhy};
 pub use scan::{scan_text, tokens_of};
 pub use token::{Refusal, Scan, Token, TokenKind, Tokens};
+
+#[cfg(test)]
+mod tests;

@@ -3,6 +3,7 @@ ghost use Rattle.cp_lex.specs.Quoted.{quoted, part_at, escaped, spelled, finishe
 ghost use Rattle.cp_lex.specs.declared.quoted.Quoted.TheVariants.{Closed};
 
 use crate::escape::{Escape, escape_at};
+use crate::runs::begins_with;
 use cp_io::Bytes;
 use std::alloc::{AllocError, Global};
 
@@ -39,6 +40,7 @@ pub(crate) enum Quoted {
 
 /// The text behind an opening quote.
 pub(crate) fn quoted_at(alloc: Global, mark: u8, text: &[u8]) -> Result<Quoted, AllocError>
+    requires { 0 < mark }
     ensures value { IfOk result (λ q. q ≡ quoted mark text.now) }
     ensures within { IfOk result (λ q. IsQuotedWithin q (length text.now)) }
 {
@@ -104,7 +106,8 @@ fn spell_character(bytes: &mut Bytes, c: char) -> Result<(), AllocError>
     ensures { OnOk result (bytes.new ≡ bytes.old ++ encode_utf8 c) }
 {
     let mut room = [0; 4];
-    for b in c.encode_utf8(&mut room).as_bytes() {
+    let encoded = c.encode_utf8(&mut room).as_bytes();
+    for b in encoded {
         bytes.push(*b)?;
     }
     Ok(())
@@ -112,17 +115,26 @@ fn spell_character(bytes: &mut Bytes, c: char) -> Result<(), AllocError>
 
 /// What a byte inside a text in these quotes begins, with what stands behind it.
 fn part_at(mark: u8, first: u8, rest: &[u8]) -> Part
+    requires { 0 < mark }
     ensures value { result ≡ part_at mark first rest.now }
     ensures within { result.more ≤ length rest.now }
 {
     if first == b'\\' {
         escaped(escape_at(rest))
     } else if first != mark {
-        Part { sign: Sign::Byte(first), more: 0 }
+        Part {
+            sign: Sign::Byte(first),
+            more: 0,
+        }
+    } else if begins_with(rest, mark) {
+        Part {
+            sign: Sign::Byte(mark),
+            more: 1,
+        }
     } else {
-        match rest.first() {
-            Some(second) if *second == mark => Part { sign: Sign::Byte(mark), more: 1 },
-            _ => Part { sign: Sign::Closes, more: 0 },
+        Part {
+            sign: Sign::Closes,
+            more: 0,
         }
     }
 }
@@ -132,8 +144,17 @@ fn escaped(escape: Escape) -> Part
     ensures { result ≡ escaped escape }
 {
     match escape {
-        Escape::Bad(more) => Part { sign: Sign::Misspelt, more },
-        Escape::Character(c, more) => Part { sign: Sign::Character(c), more },
-        Escape::Newline => Part { sign: Sign::Nothing, more: 1 },
+        Escape::Bad(more) => Part {
+            sign: Sign::Misspelt,
+            more,
+        },
+        Escape::Character(c, more) => Part {
+            sign: Sign::Character(c),
+            more,
+        },
+        Escape::Newline => Part {
+            sign: Sign::Nothing,
+            more: 1,
+        },
     }
 }

@@ -1,5 +1,5 @@
-ghost use Rattle.std.specs.Prelude.{◌≡◌, ◌≤◌, length};
-ghost use Rattle.cp_char.specs.Characters.{run, is_symbol, is_layout, is_alphanumeric};
+ghost use Rattle.std.specs.Prelude.{◌≡◌, ◌<◌, ◌≤◌, ◌==◌, length};
+ghost use Rattle.cp_char.specs.Characters.{first, run, is_symbol, is_layout, is_alphanumeric};
 ghost use Rattle.cp_lex.specs.Lexical.{goes_on};
 
 use cp_char::{is_alphanumeric, is_layout, is_symbol};
@@ -54,4 +54,15 @@ pub(crate) fn symbols_len(text: &[u8]) -> usize
         }
     }
     text.len()
+}
+
+/// Whether the first byte is this one, which is not 0.
+pub(crate) fn begins_with(text: &[u8], byte: u8) -> bool
+    requires { 0 < byte }
+    ensures { result ≡ (first text.now == byte) }
+{
+    match text.first() {
+        Some(c) => *c == byte,
+        None => false,
+    }
 }

@@ -14,8 +14,18 @@ pub fn tokens_of(alloc: Global, text: &[u8]) -> Result<Tokens, LexError>
     ensures { Lexes result (tokens text.now) }
 {
     match scan_text(alloc, text) {
-        Ok(Scan { tokens, refusal: None }) => Ok(tokens),
-        Ok(Scan { tokens: _, refusal: Some(Refusal { line, why }) }) => Err(LexError::Lex { line, why }),
+        Ok(
+            Scan {
+                tokens,
+                refusal: None,
+            },
+        ) => Ok(tokens),
+        Ok(
+            Scan {
+                tokens: _,
+                refusal: Some(Refusal { line, why }),
+            },
+        ) => Err(LexError::Lex { line, why }),
         Err(_) => Err(LexError::NoMemory),
     }
 }
@@ -87,9 +97,15 @@ fn scan_utf8(alloc: Global, text: &[u8]) -> Result<Scan, AllocError>
             }
             Piece::Refused(why, len) => {
                 let line = line + newlines(rest.split_at(len).0);
-                return Ok(Scan { tokens, refusal: Some(Refusal { line, why }) });
+                return Ok(Scan {
+                    tokens,
+                    refusal: Some(Refusal { line, why }),
+                });
             }
         }
     }
-    Ok(Scan { tokens, refusal: None })
+    Ok(Scan {
+        tokens,
+        refusal: None,
+    })
 }

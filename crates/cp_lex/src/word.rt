@@ -49,7 +49,10 @@ pub(crate) fn variable(alloc: Global, text: &[u8]) -> Result<Piece, AllocError>
     ensures { (before : Before) → IfOk result (λ p. p ≡ piece_from CapitalLetter before text.now) }
 {
     let len = name_len(text);
-    Ok(Piece::Token(TokenKind::Variable(bytes_of(alloc, text.split_at(len).0)?), len))
+    Ok(Piece::Token(
+        TokenKind::Variable(bytes_of(alloc, text.split_at(len).0)?),
+        len,
+    ))
 }
 
 /// The word in single quotes at the front of a text.
