@@ -1,5 +1,5 @@
 -- The tokens of a text, or the first refusal in it. That the text is no UTF-8 goes before every other refusal.
-use Rattle.std.specs.Prelude.{ℕ, zero, suc, ◌+◌, ◌-◌, ◌==◌, if◌then◌else◌, List, [], ◌∷◌, length, take, Option, Some, None, Result, Ok, Err}
+use Rattle.std.specs.Prelude.{ℕ, zero, suc, ◌+◌, ◌-◌, ◌==◌, if◌then◌else◌, List, [], ◌∷◌, length, take, Some, None, Result, Ok, Err}
 use Rattle.std.specs.Str.Lossy.{utf8_valid_len}
 use Rattle.cp_lex.specs.declared.error.LexWhy.{LexWhy}
 use Rattle.cp_lex.specs.declared.error.LexWhy.TheVariants.{BadUtf8}

@@ -1,6 +1,6 @@
 -- A piece of a text takes at least one byte, and no more than there are.
-use Rattle.std.proofs.Common.{◌≡◌, ℕ, zero, suc, ◌+◌, ◌*◌, ◌<◌, ◌≤◌, Bool, true, false, cond, List, [], ◌∷◌, length, take, drop, inl, inr, refl, sym, ◌∙◌, ap, subst, arith, Some, None}
-use Rattle.std.specs.Prelude.{Option, not, ◌||◌, ◌&&◌, ◌==◌, nat_eq, option_map, codes}
+use Rattle.std.proofs.Common.{◌≡◌, ℕ, suc, ◌+◌, ◌<◌, ◌≤◌, Bool, true, false, cond, List, [], ◌∷◌, length, take, drop, inl, inr, refl, sym, ◌∙◌, ap, subst, arith, Some, None}
+use Rattle.std.specs.Prelude.{Option, not, ◌||◌, ◌&&◌, ◌==◌, nat_eq, option_map}
 use Rattle.std.specs.List.{starts_with}
 use Rattle.std.specs.Char.{is_digit, is_ascii_lowercase, is_ascii_uppercase, is_ascii_alphanumeric}
 use Rattle.std.specs.Int.{is_in_range}
@@ -8,11 +8,10 @@ use Rattle.std.specs.Str.Parse.{digits_value}
 use Rattle.std.proofs.lemmas.List.{length-drop}
 use Rattle.std.proofs.lemmas.List.Sums.{prefix_len-le-length}
 use Rattle.std.proofs.lemmas.Bool.{cond_both, cases_Bool, and_parts, or_cases, or_parts, or_left, or_right, not-false, not_from_false, eqb-true, ne_eqb}
-use Rattle.bstr.specs.Utf8.{Decoded, decoded}
+use Rattle.bstr.specs.Utf8.{decoded}
 use Rattle.bstr.proofs.lemmas.PieceLemmas.{size-within}
 use lib.Utf8.{scalar}
 use Rattle.cp_char.specs.Characters.{first, run, begins, ◌∈◌, newline, quote, double_quote, backslash, is_layout, is_alphanumeric, is_symbol, is_octal, ends_clause}
-use Rattle.cp_lex.specs.declared.error.LexWhy.{LexWhy}
 use Rattle.cp_lex.specs.declared.error.LexWhy.TheVariants.{WideNumber, Float, StrayByte}
 use Rattle.cp_lex.specs.declared.token.TokenKind.{TokenKind}
 use Rattle.cp_lex.specs.declared.token.TokenKind.TheVariants.{Word, Int, Text}
@@ -26,7 +25,7 @@ use Rattle.cp_lex.specs.declared.escape.Escape.TheVariants.{Bad, Character, Newl
 use Rattle.cp_lex.specs.declared.quoted.Quoted.{Quoted}
 use Rattle.cp_lex.specs.declared.quoted.Quoted.TheVariants.{Closed, BadAt, Unended}
 use Rattle.cp_lex.specs.Quoted.{by_number, is_escaped_sign, by_letter, continues_octal, escape, quoted, IsEscapeWithin, IsQuotedWithin}
-use Rattle.cp_lex.specs.Lexical.{is_bracket, sign, start, goes_on, past_comment, comment, quoted_piece, is_wide, integer, begins_fraction, decimal, radix, escaped_character, quote_character, decoded_character, plain_character, character, number, bracket_token, piece_from, piece}
+use Rattle.cp_lex.specs.Lexical.{is_bracket, sign, start, goes_on, past_comment, comment, quoted_piece, is_wide, integer, begins_fraction, decimal, radix, escaped_character, quote_character, decoded_character, plain_character, character, number, piece_from, piece}
 use Rattle.cp_lex.proofs.lemmas.QuotedLaws.{quoted-within}
 
 abbrev pub IsInside : Piece → ℕ → Type 0
@@ -181,10 +180,10 @@ by_number-within skipped base t =
     let len : ℕ = skipped + length t in
     cond_both (n == 0 || not (first (drop n t) == backslash)) (Bad 0) (cond (scalar c) (Character c (skipped + n + 1)) (Bad (skipped + n + 1))) (λ e. IsEscapeWithin e len) (λ _. omega arith)
     (λ h.
-      let closes = eqb-true (first (drop n t)) backslash (not-false (first (drop n t) == backslash) (or_parts (n == 0) (not (first (drop n t) == backslash)) h).1) in
-      let some = first-some (drop n t) backslash (omega arith) closes in
-      let within : skipped + n + 1 ≤ len = omega (arith, length-drop n t, some) in
-      cond_both (scalar c) (Character c (skipped + n + 1)) (Bad (skipped + n + 1)) (λ e. IsEscapeWithin e len) (λ _. within) (λ _. within))
+    let closes = eqb-true (first (drop n t)) backslash (not-false (first (drop n t) == backslash) (or_parts (n == 0) (not (first (drop n t) == backslash)) h).1) in
+    let some = first-some (drop n t) backslash (omega arith) closes in
+    let within : skipped + n + 1 ≤ len = omega (arith, length-drop n t, some) in
+    cond_both (scalar c) (Character c (skipped + n + 1)) (Bad (skipped + n + 1)) (λ e. IsEscapeWithin e len) (λ _. within) (λ _. within))
 
 choice-within : (b : Bool) (c len : ℕ) (other : Escape) → 1 ≤ len → IsEscapeWithin other len → IsEscapeWithin (cond b (Character c 1) other) len
 choice-within b c len other h k = cond_both b (Character c 1) other (λ e. IsEscapeWithin e len) (λ _. h) (λ _. k)

@@ -1,19 +1,17 @@
 -- Numbers above the greatest one are all alike.
-use Rattle.std.proofs.Common.{◌≡◌, ℕ, ◌+◌, ◌-◌, ◌*◌, ◌/◌, ◌<◌, ◌≤◌, ◌^◌, Bool, true, false, cond, List, take, length, get_or, inl, inr, refl, sym, ◌∙◌, ap, arith}
-use Rattle.std.specs.Prelude.{min, ◌==◌, drop, if◌then◌else◌}
+use Rattle.std.proofs.Common.{◌≡◌, ℕ, ◌+◌, ◌*◌, ◌/◌, ◌<◌, ◌≤◌, ◌^◌, true, false, cond, List, take, length, inl, inr, sym, ◌∙◌, ap, arith}
+use Rattle.std.specs.Prelude.{min, drop}
 use Rattle.std.specs.Char.{is_digit}
 use Rattle.std.proofs.lemmas.Bool.{cases_lt, lt-ltb, le-leb, eq-eqb, ne_eqb}
 use lib.Utf8.{scalar}
 use Rattle.cp_char.specs.Characters.{run}
 use Rattle.cp_lex.specs.declared.before.Before.{Before}
 use Rattle.cp_lex.specs.declared.before.Before.TheVariants.{Minus, OtherWord, NoWord}
-use Rattle.cp_lex.specs.declared.piece.Piece.{Piece}
 use Rattle.cp_lex.specs.declared.piece.Piece.TheVariants.{Token, Refused}
 use Rattle.cp_lex.specs.declared.token.TokenKind.TheVariants.{Int}
 use Rattle.cp_lex.specs.declared.error.LexWhy.TheVariants.{WideNumber}
 use Rattle.cp_lex.specs.Lexical.{is_wide, integer, decimal, radix}
-use Rattle.std.specs.Char.{digit_value}
-use Rattle.std.specs.Str.Parse.{digits_value, digits_value_after}
+use Rattle.std.specs.Str.Parse.{digits_value}
 use Rattle.std.proofs.Math.Nat.{div-lt_iff_lt-mul, div-mul-le_self, mul-le-mul_right}
 use Rattle.std.proofs.lemmas.Int.Digits.{digits_value_more}
 use Rattle.std.proofs.lemmas.Str.Parse.{digits_value-take-le}

@@ -1,7 +1,8 @@
 -- The tokens of a text, piece by piece.
 use Rattle.std.proofs.Common.{◌≡◌, ℕ, zero, suc, ◌+◌, ◌-◌, ◌<◌, ◌≤◌, true, false, cond, List, [], ◌∷◌, ◌++◌, length, take, drop, refl, sym, ◌∙◌, ap, subst, arith, append_assoc}
+use Rattle.std.proofs.lemmas.List.{append-nil}
 use Rattle.std.proofs.Math.Nat.{add-zero}
-use Rattle.std.specs.Prelude.{◌==◌, Some, None}
+use Rattle.std.specs.Prelude.{◌==◌, Some}
 use Rattle.cp_char.specs.Characters.{newline}
 use Rattle.cp_lex.specs.declared.error.LexWhy.{LexWhy}
 use Rattle.cp_lex.specs.declared.token.TokenKind.{TokenKind}
@@ -91,5 +92,6 @@ module _ (b : Before) (rest : List ℕ) (p : Place) (some : 0 < length rest) (gi
   pub token_step : (kind : TokenKind) (n : ℕ) → pieces.Token kind n ≡ piece b rest → onto (ts ++ token_at kind n p ∷ []) (scan_from (after kind n) 0 (moved n rest p) (drop n rest)) ≡ given
   token_step kind n here = sym (onto-with_token ts (token_at kind n p) (scan_from (after kind n) 0 (moved n rest p) (drop n rest))) ∙ here_is (pieces.Token kind n) here
 
-  pub refusal_step : (why : LexWhy) (n : ℕ) → pieces.Refused why n ≡ piece b rest → record { tokens = ts; refusal = Some (record { line = p.line + newlines (take n rest); why = why }) } ≡ given
-  refusal_step why n here = ?
+  pub refusal_step : (why : LexWhy) (n : ℕ) → pieces.Refused why n ≡ piece b rest → (record { tokens = ts; refusal = Some (record { line = p.line + newlines (take n rest); why = why }) }) ≡ given
+  refusal_step why n here =
+      (λ i. record { tokens = sym (append-nil ts) i; refusal = Some (record { line = p.line + newlines (take n rest); why = why }) }) ∙ here_is (pieces.Refused why n) here

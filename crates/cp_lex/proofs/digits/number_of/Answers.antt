@@ -1,4 +1,4 @@
-use Rattle.std.proofs.Common.{◌≡◌, ℕ, ◌+◌, ◌*◌, ◌≤◌, ◌^◌, arith, take, ap}
+use Rattle.std.proofs.Common.{◌≡◌, ◌*◌, arith, take, ap}
 use Rattle.std.specs.Str.Parse.{digits_value}
 use Rattle.std.proofs.lemmas.Int.Digits.{digits_value_more}
 use Rattle.cp_lex.proofs.lemmas.NumberLaws.{too_large, small_enough}
