@@ -1,0 +1,5 @@
+pub mod CommentLaws
+pub mod NumberLaws
+pub mod QuotedLaws
+pub mod InsideLaws
+pub mod ScanLaws

@@ -1,0 +1,4 @@
+pub mod Quoted
+pub mod Lexical
+pub mod Tokens
+pub mod Answers

@@ -1,0 +1,24 @@
+//! The tokens of a Prolog text.
+#![tactic(auto)]
+
+mod before;
+mod character;
+mod comment;
+mod digits;
+mod error;
+mod escape;
+mod number;
+mod piece;
+mod quoted;
+mod runs;
+mod scan;
+mod start;
+mod token;
+mod word;
+
+pub use error::{LexError, LexWhy};
+pub use scan::{scan_text, tokens_of};
+pub use token::{Refusal, Scan, Token, TokenKind, Tokens};
+
+#[cfg(test)]
+mod tests;
