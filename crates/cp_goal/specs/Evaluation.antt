@@ -10,13 +10,9 @@ use Rattle.cp_goal.specs.declared.fault.Fault.TheVariants.{ZeroDivisor, IntOverf
 use Rattle.cp_goal.specs.declared.unary.Unary.{Unary}
 use Rattle.cp_goal.specs.declared.binary.Binary.{Binary}
 use Rattle.cp_goal.specs.Errors.{instantiation_error, type_error, domain_error, evaluation_error, indicator}
+use Rattle.cp_goal.specs.declared.why.Why.{Why}
+use Rattle.cp_goal.specs.declared.why.Why.TheVariants.{Unbound, NotEvaluable, Faulty}
 use Rattle.cp_goal.specs.Operations.{unary_named, unary_value, binary_named, binary_value}
-
--- why an expression has no value: a variable that is not bound, an atom or compound that is no operation, a fault
-pub data Why : Type 0 where
-  Unbound : Why
-  NotEvaluable : (name : List ℕ) (arity : ℕ) → Why
-  Faulty : Fault → Why
 
 abbrev pub Value : Type 0
 Value = Result ℤ Why
