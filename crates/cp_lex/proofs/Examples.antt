@@ -1,5 +1,5 @@
 -- Worked examples, which the definitions compute.
-use Rattle.std.proofs.Common.{◌≡◌, ℕ, List, [], ◌∷◌, map, refl, Some, None, Ok, Err}
+use Rattle.std.proofs.Common.{◌≡◌, ℕ, List, [], ◌∷◌, map, refl, Some, None}
 use Rattle.std.specs.Prelude.{codes, Option}
 use Rattle.std.specs.Char.{encode_utf8}
 use Rattle.std.specs.Str.{is_utf8, chars}
@@ -9,9 +9,8 @@ use Rattle.cp_lex.specs.declared.error.LexWhy.{LexWhy}
 use Rattle.cp_lex.specs.declared.error.LexWhy.TheVariants.{BadUtf8, OpenQuote, OpenComment, BadEscape, WideNumber, Float, StrayByte}
 use Rattle.cp_lex.specs.declared.token.TokenKind.{TokenKind}
 use Rattle.cp_lex.specs.declared.token.TokenKind.TheVariants.{Word, Variable, Int, Text, Punct, OpenCall, End}
-use Rattle.cp_lex.specs.declared.token.Token.{Token}
 use Rattle.cp_lex.specs.declared.token.Refusal.{Refusal}
-use Rattle.cp_lex.specs.Tokens.{utf8_scan, scan, tokens}
+use Rattle.cp_lex.specs.Tokens.{utf8_scan, scan}
 
 -- the kinds of the tokens of an ASCII text before the first refusal, and that refusal
 abbrev kinds : String → List TokenKind × Option Refusal

@@ -3,3 +3,5 @@ pub mod NumberLaws
 pub mod QuotedLaws
 pub mod InsideLaws
 pub mod ScanLaws
+pub mod LocalLaws
+pub mod JoinLaws

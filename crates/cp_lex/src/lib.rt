@@ -7,6 +7,7 @@ mod comment;
 mod digits;
 mod error;
 mod escape;
+mod laws;
 mod number;
 mod piece;
 mod quoted;
@@ -17,6 +18,7 @@ mod token;
 mod word;
 
 pub use error::{LexError, LexWhy};
+pub use laws::texts_are_read_clause_by_clause;
 pub use scan::{scan_text, tokens_of};
 pub use token::{Refusal, Scan, Token, TokenKind, Tokens};
 

@@ -14,6 +14,7 @@ use Rattle.cp_lex.specs.declared.piece.Piece.{Piece}
 use Rattle.cp_lex.specs.declared.piece.Piece.TheVariants as pieces
 use Rattle.cp_lex.specs.Lexical.{after, piece}
 use Rattle.cp_lex.specs.Tokens.{newlines, Place, past, with_token, refused_at, scan_from}
+pub use Rattle.cp_lex.specs.Laws.{onto}
 use Rattle.cp_lex.proofs.lemmas.InsideLaws.{IsInside, piece-inside}
 
 abbrev pub place : ℕ → ℕ → Place
@@ -29,7 +30,7 @@ moved-zero text p = λ i. record { at = sym (add-zero (p.at)) i; line = sym (add
 past_line : (c k : ℕ) (p : Place) → (past c p).line + k ≡ p.line + (cond (c == newline) 1 0 + k)
 past_line c k p = elim (c == newline) as (λ b. cond b (suc (p.line)) (p.line) + k ≡ p.line + (cond b 1 0 + k)) [ true ↦ omega arith | false ↦ omega arith ]
 
-moved-past : (n c : ℕ) (text : List ℕ) (p : Place) → moved n text (past c p) ≡ moved (suc n) (c ∷ text) p
+pub moved-past : (n c : ℕ) (text : List ℕ) (p : Place) → moved n text (past c p) ≡ moved (suc n) (c ∷ text) p
 moved-past n c text p = λ i. record {
   at = (let e : suc (p.at) + n ≡ p.at + suc n = omega arith in e) i;
   line = past_line c (newlines (take n text)) p i;
@@ -70,10 +71,6 @@ piece_step b (pieces.Refused why n) c text p h = refl
 pub step : (b : Before) (text : List ℕ) (p : Place) → 0 < length text → scan_from b 0 p text ≡ from_piece (piece b text) p text
 step b [] p some = absurd (omega (arith, some))
 step b (c ∷ text) p some = piece_step b (piece b (c ∷ text)) c text p (piece-inside b (c ∷ text) some)
-
--- tokens in front of a scan
-abbrev pub onto : List Token → Scan → Scan
-onto ts s = record { tokens = ts ++ s.tokens; refusal = s.refusal }
 
 onto-with_token : (ts : List Token) (t : Token) (s : Scan) → onto ts (with_token t s) ≡ onto (ts ++ t ∷ []) s
 onto-with_token ts t s = λ i. record { tokens = sym (append_assoc ts (t ∷ []) s.tokens) i; refusal = s.refusal }
