@@ -5,3 +5,4 @@ pub mod InsideLaws
 pub mod ScanLaws
 pub mod LocalLaws
 pub mod JoinLaws
+pub mod StopLaws

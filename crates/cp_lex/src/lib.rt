@@ -18,7 +18,10 @@ mod token;
 mod word;
 
 pub use error::{LexError, LexWhy};
-pub use laws::texts_are_read_clause_by_clause;
+pub use laws::{
+    pieces_are_inside, texts_are_read_clause_by_clause, texts_are_scanned_by_pieces,
+    what_follows_a_full_stop_is_read_anew,
+};
 pub use scan::{scan_text, tokens_of};
 pub use token::{Refusal, Scan, Token, TokenKind, Tokens};
 

@@ -30,12 +30,12 @@ skipped b (suc left) p [] h = refl
 skipped b zero p (c ∷ text) h = absurd (omega (arith, h))
 skipped b (suc left) p (c ∷ text) h = skipped b left (past c p) text (omega (arith, h))
 
-not_empty : {X : Type 0} (ts : List X) (t : X) → [] ≡ ts ++ t ∷ [] → ⊥
+pub not_empty : {X : Type 0} (ts : List X) (t : X) → [] ≡ ts ++ t ∷ [] → ⊥
 not_empty [] t e = cc
 not_empty (u ∷ ts) t e = cc
 
 -- what the scan from a byte on is, by the piece that stands there
-abbrev from_byte : Piece → Before → Place → ℕ → List ℕ → Scan
+abbrev pub from_byte : Piece → Before → Place → ℕ → List ℕ → Scan
 from_byte pc b p c text = elim pc [
   | pieces.Blank n ↦ scan_from NoWord (n - 1) (past c p) text
   | pieces.Token kind n ↦ with_token (record { kind = kind; from = p.at; to = p.at + n; line = p.line }) (scan_from (after kind n) (n - 1) (past c p) text)
@@ -110,7 +110,7 @@ join b zero p (c ∷ u) ys ts t ends h =
     join_piece b p c u ys ts t ends (piece b (c ∷ u ++ stop)) refl (λ d left us v k. join d left (past c p) u ys us v ends k) h
 
 -- a scan so many bytes and lines further on
-abbrev further : ℕ → ℕ → Place → Place
+abbrev pub further : ℕ → ℕ → Place → Place
 further bytes lines p = record { at = bytes + p.at; line = lines + p.line }
 
 further_line : (lines line : ℕ) (b : Bool) → cond b (suc (lines + line)) (lines + line) ≡ lines + cond b (suc line) line
@@ -135,7 +135,7 @@ further_piece bytes lines b (pieces.Refused why n) c p text ih =
     let e : lines + p.line + k ≡ lines + (p.line + k) = omega arith in
     ap (λ l. refused_at l why) e
 
-further-scan : (bytes lines : ℕ) (b : Before) (left : ℕ) (p : Place) (text : List ℕ) → scan_from b left (further bytes lines p) text ≡ moved_scan bytes lines (scan_from b left p text)
+pub further-scan : (bytes lines : ℕ) (b : Before) (left : ℕ) (p : Place) (text : List ℕ) → scan_from b left (further bytes lines p) text ≡ moved_scan bytes lines (scan_from b left p text)
 further-scan bytes lines b zero p [] = refl
 further-scan bytes lines b (suc left) p [] = refl
 further-scan bytes lines b (suc left) p (c ∷ text) = ap (λ q. scan_from b left q text) (further-past bytes lines c p) ∙ further-scan bytes lines b left (past c p) text
@@ -149,7 +149,7 @@ newlines-stop [] = refl
 newlines-stop (c ∷ u) = ap (λ n. cond (c == newline) 1 0 + n) (newlines-stop u)
 
 -- a text that is UTF-8
-scan-utf8 : (text : List ℕ) → IsUtf8 text → scan text ≡ utf8_scan text
+pub scan-utf8 : (text : List ℕ) → IsUtf8 text → scan text ≡ utf8_scan text
 scan-utf8 text utf8 =
     ap (λ b. cond b (utf8_scan text) (refused_at (1 + newlines (take (utf8_valid_len text) text)) BadUtf8)) (eq-eqb (utf8_valid_len text) (length text) (utf8_valid_len-IsUtf8 text utf8))
 
