@@ -2,3 +2,4 @@ pub mod Quoted
 pub mod Lexical
 pub mod Tokens
 pub mod Answers
+pub mod Laws

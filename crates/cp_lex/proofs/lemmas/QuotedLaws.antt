@@ -48,7 +48,7 @@ misspelt-more bytes (Some place) at more (Closed ys n) = refl
 misspelt-more bytes (Some place) at more (BadAt n) = refl
 misspelt-more bytes (Some place) at more Unended = refl
 
-abbrev from_part : Part → ℕ → List ℕ → Quoted
+abbrev pub from_part : Part → ℕ → List ℕ → Quoted
 from_part p mark text = elim (p.sign) [
   | signs.Closes ↦ Closed [] 1
   | signs.Misspelt ↦ misspelt (quoted_from mark p.more text)
