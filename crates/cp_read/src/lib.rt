@@ -1,0 +1,16 @@
+//! Reads the clauses of a Prolog text from its tokens.
+#![tactic(auto)]
+
+mod bounds;
+mod clause;
+mod error;
+mod laws;
+mod reader;
+
+pub use bounds::Bounds;
+pub use clause::ReadClause;
+pub use error::{ReadError, SyntaxWhy};
+pub use laws::{
+    clauses_are_terms, reading_is_by_the_rules, reading_is_decided, rules_derive_no_second,
+};
+pub use reader::Reader;
