@@ -19,7 +19,7 @@ use Rattle.cp_lex.specs.declared.before.Before.{Before}
 use Rattle.cp_lex.specs.declared.start.Start.{Start}
 use Rattle.cp_lex.specs.declared.start.Start.TheVariants.{Layout, LineComment, BlockComment, SmallLetter, CapitalLetter, Digit, ClauseEnd, Symbols, Solo, WordQuote, TextQuote, Bracket, Nothing}
 use Rattle.cp_lex.specs.declared.piece.Piece.{Piece}
-use Rattle.cp_lex.specs.declared.piece.Piece.TheVariants.{Blank, Token, Refused}
+use Rattle.cp_lex.specs.declared.piece.Piece.TheVariants.{Token, Refused}
 use Rattle.cp_lex.specs.declared.escape.Escape.{Escape}
 use Rattle.cp_lex.specs.declared.escape.Escape.TheVariants.{Bad, Character, Newline}
 use Rattle.cp_lex.specs.declared.quoted.Quoted.{Quoted}
