@@ -19,12 +19,13 @@ use Rattle.cp_lex.specs.declared.before.Before.{Before}
 use Rattle.cp_lex.specs.declared.start.Start.{Start}
 use Rattle.cp_lex.specs.declared.start.Start.TheVariants.{Layout, LineComment, BlockComment, SmallLetter, CapitalLetter, Digit, ClauseEnd, Symbols, Solo, WordQuote, TextQuote, Bracket, Nothing}
 use Rattle.cp_lex.specs.declared.piece.Piece.{Piece}
-use Rattle.cp_lex.specs.declared.piece.Piece.TheVariants.{Blank, Token, Refused}
+use Rattle.cp_lex.specs.declared.piece.Piece.TheVariants.{Token, Refused}
 use Rattle.cp_lex.specs.declared.escape.Escape.{Escape}
 use Rattle.cp_lex.specs.declared.escape.Escape.TheVariants.{Bad, Character, Newline}
 use Rattle.cp_lex.specs.declared.quoted.Quoted.{Quoted}
 use Rattle.cp_lex.specs.declared.quoted.Quoted.TheVariants.{Closed, BadAt, Unended}
-use Rattle.cp_lex.specs.Quoted.{by_number, is_escaped_sign, by_letter, continues_octal, escape, quoted, IsEscapeWithin, IsQuotedWithin}
+use Rattle.cp_lex.specs.Quoted.{by_number, is_escaped_sign, by_letter, continues_octal, escape, quoted}
+use Rattle.cp_lex.specs.Steps.{IsEscapeWithin, IsQuotedWithin}
 use Rattle.cp_lex.specs.Lexical.{is_bracket, sign, start, goes_on, past_comment, comment, quoted_piece, is_wide, integer, begins_fraction, decimal, radix, escaped_character, quote_character, decoded_character, plain_character, character, number, piece_from, piece}
 use Rattle.cp_lex.specs.Laws.{IsInside}
 use Rattle.cp_lex.proofs.lemmas.QuotedLaws.{quoted-within}

@@ -7,7 +7,8 @@ use Rattle.cp_lex.specs.declared.quoted.Sign.TheVariants as signs
 use Rattle.cp_lex.specs.declared.quoted.Part.{Part}
 use Rattle.cp_lex.specs.declared.quoted.Quoted.{Quoted}
 use Rattle.cp_lex.specs.declared.quoted.Quoted.TheVariants.{Closed, BadAt, Unended}
-use Rattle.cp_lex.specs.Quoted.{part_at, spelled, closes, first_bad, onward, misspelt, finished, quoted_from, quoted, IsQuotedWithin}
+use Rattle.cp_lex.specs.Quoted.{part_at, spelled, onward, misspelt, quoted_from, quoted}
+use Rattle.cp_lex.specs.Steps.{closes, first_bad, finished, IsQuotedWithin}
 
 -- nothing is read yet
 finished-none : (q : Quoted) → q ≡ finished [] None 0 q

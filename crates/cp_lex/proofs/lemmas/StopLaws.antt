@@ -1,14 +1,14 @@
 -- What stands behind an End.
-use Rattle.std.proofs.Common.{◌≡◌, ℕ, zero, suc, ◌+◌, ◌-◌, ◌<◌, ◌≤◌, Bool, true, false, cond, List, [], ◌∷◌, ◌++◌, length, take, drop, get_or, map, inl, inr, refl, sym, ◌∙◌, ap, subst, arith, Some, None}
-use Rattle.std.specs.Prelude.{Option, not, ◌||◌, ◌&&◌, ◌==◌, nat_eq, encode_utf8}
+use Rattle.std.proofs.Common.{◌≡◌, ℕ, zero, suc, ◌+◌, ◌-◌, ◌<◌, true, false, cond, List, [], ◌∷◌, ◌++◌, length, take, drop, get_or, inl, inr, refl, sym, ◌∙◌, ap, subst, arith, Some, None}
+use Rattle.std.specs.Prelude.{Option, not, ◌&&◌, ◌==◌}
 use Rattle.std.specs.Char.{is_digit}
 use Rattle.std.specs.Str.{IsUtf8}
 use Rattle.std.specs.Str.Parse.{digits_value}
 use Rattle.std.proofs.lemmas.Str.{IsUtf8-drop, IsCharBoundary-after_ascii}
 use Rattle.std.proofs.lemmas.Bool.{cond_both, and_parts, or_cases, eqb-true}
-use Rattle.bstr.specs.Utf8.{Decoded, decoded}
-use Rattle.cp_char.specs.Characters.{first, run, begins, ◌∈◌, newline, quote, double_quote, backslash, is_alphanumeric, is_symbol, is_layout, ends_clause}
-use Rattle.cp_lex.specs.declared.error.LexWhy.TheVariants.{WideNumber, Float, StrayByte, OpenComment}
+use Rattle.bstr.specs.Utf8.{decoded}
+use Rattle.cp_char.specs.Characters.{first, run, begins, ◌∈◌, newline, quote, double_quote, backslash, ends_clause}
+use Rattle.cp_lex.specs.declared.error.LexWhy.TheVariants.{WideNumber, Float, StrayByte}
 use Rattle.cp_lex.specs.declared.token.TokenKind.{TokenKind}
 use Rattle.cp_lex.specs.declared.token.TokenKind.TheVariants.{Word, Variable, Int, Text, Punct, OpenCall, End}
 use Rattle.cp_lex.specs.declared.token.Token.{Token}
@@ -25,10 +25,10 @@ use Rattle.cp_lex.specs.declared.quoted.Quoted.{Quoted}
 use Rattle.cp_lex.specs.declared.quoted.Quoted.TheVariants.{Closed, BadAt, Unended}
 use Rattle.cp_lex.specs.Quoted.{escape, quoted}
 use Rattle.cp_lex.specs.Lexical.{after, start, past_comment, comment, quoted_piece, is_wide, integer, begins_fraction, decimal, radix, escaped_character, quote_character, decoded_character, plain_character, character, number, bracket_token, piece_from, piece}
-use Rattle.cp_lex.specs.Tokens.{newlines, Place, past, beginning, with_token, refused_at, scan_from, utf8_scan, scan}
+use Rattle.cp_lex.specs.Tokens.{newlines, Place, past, beginning, with_token, scan_from, utf8_scan}
 use Rattle.cp_lex.specs.Laws.{moved_scan, IsReadAnew}
 use Rattle.cp_lex.proofs.lemmas.InsideLaws.{Begins, begins-start}
-use Rattle.cp_lex.proofs.lemmas.JoinLaws.{not_empty, from_byte, further, further-scan, scan-utf8}
+use Rattle.cp_lex.proofs.lemmas.JoinLaws.{from_byte, further, further-scan, scan-utf8}
 
 -- an End is one full stop
 abbrev EndIsStop : TokenKind → ℕ → ℕ → Type 0
