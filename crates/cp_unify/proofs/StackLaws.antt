@@ -108,7 +108,7 @@ placed_named n m at (Integer i) placed = tt
 placed_named n m at (Atom a) placed = placed
 placed_named n m at (Compound k f first) placed = placed.2
 
-count_is : (names : List (List ℕ)) (w : Word) → arity_of (first_cell names w) ≡ count_of w
+pub count_is : (names : List (List ℕ)) (w : Word) → arity_of (first_cell names w) ≡ count_of w
 count_is names (Variable v) = refl
 count_is names (Integer i) = refl
 count_is names (Atom a) = refl

@@ -2,9 +2,12 @@
 #![tactic(auto)]
 
 mod binding;
+mod comparison;
 mod horizon;
+mod order;
 mod pair;
 mod unification;
 mod words;
 
+pub use comparison::compare;
 pub use unification::{unify, unify_since};
