@@ -23,7 +23,7 @@ use Rattle.cp_unify.specs.Words.{first_of, count_of, argument_cells, IsNamed}
 use Rattle.cp_unify.specs.Pairs.{lefts, rights, ArePairs, pairs_from}
 use Rattle.cp_unify.specs.declared.horizon.Horizon.{Horizon}
 use Rattle.cp_unify.specs.Steps.{Unifies, IsHorizon, IsUnifying}
-use Rattle.cp_unify.proofs.PairLaws.{unify-same, unify-first}
+use Rattle.cp_unify.proofs.PairLaws.{unify-same, unify-prefix, unify-first}
 
 -- a stack in two parts
 lefts-append : (h : State) (xs ys : List Pair) → lefts h (xs ++ ys) ≡ lefts h ys ++ lefts h xs
@@ -169,6 +169,11 @@ apart_goes_on h new pl pr left right goes_on pairs kept e f unifies =
     (apply-append s (term h pr) (rights h pairs) ∙ ap (λ cs. cs ++ apply s (rights h pairs)) (sym f) ∙ sym (apply-append s (term h right) (rights h pairs)))
     ∙ unifies (lefts h pairs) (rights h pairs)
     ∙ (λ i. cond goes_on (unify (substitution new) (lefts-stay h new pairs terms i) (rights-stay h new pairs terms i)) None)
+
+-- two terms at one place
+pub place_goes_on : (h : State) (pl pr left right : ℕ) (pairs : List Pair) → instance_at h left ≡ instance_at h pl → instance_at h right ≡ instance_at h pr → left ≡ right
+    → unify (substitution h) (term h pl ++ lefts h pairs) (term h pr ++ rights h pairs) ≡ unify (substitution h) (lefts h pairs) (rights h pairs)
+place_goes_on h pl pr left right pairs e f same = unify-prefix (term h pl) (term h pr) (lefts h pairs) (rights h pairs) (substitution h) (sym e ∙ ap (instance_at h) same ∙ f)
 
 -- nothing is left
 pub unify-nil : (s : Substitution) → unify s [] [] ≡ Some s

@@ -11,3 +11,6 @@ mod words;
 
 pub use comparison::compare;
 pub use unification::{unify, unify_since};
+
+#[cfg(test)]
+mod tests;

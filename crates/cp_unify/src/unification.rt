@@ -82,6 +82,9 @@ fn unify_pair(
 {
     let left = heap.end(pair.left);
     let right = heap.end(pair.right);
+    if left.at == right.at {
+        return Ok(true);
+    }
     let left_word = heap.word(left);
     let right_word = heap.word(right);
     if same_first(heap, left_word, right_word) {

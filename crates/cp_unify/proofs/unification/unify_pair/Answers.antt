@@ -4,7 +4,7 @@ use Rattle.cp_heap.specs.Walk.{first_cell}
 use Rattle.cp_heap.proofs.WalkLaws.{end_instance}
 use Rattle.cp_unify.specs.Pairs.{pairs_from}
 use Rattle.cp_unify.proofs.StepLaws.{differ_from}
-use Rattle.cp_unify.proofs.StackLaws.{placed_within, new_pairs, pair_goes_on, apart_goes_on}
+use Rattle.cp_unify.proofs.StackLaws.{placed_within, new_pairs, pair_goes_on, place_goes_on, apart_goes_on}
 use Rattle.cp_unify.proofs.unification.unify_pair.Goals as goal
 
 pub returns-then-same_first-clause-goes_on : goal.returns-then-same_first-clause-goes_on
@@ -50,3 +50,7 @@ pub returns-clause-goes_on : goal.returns-clause-goes_on
 returns-clause-goes_on c =
     apart_goes_on c.args.heap.now c.unify_apart.new.heap c.args.pair.left.at c.args.pair.right.at c.end-left.result.at c.end-right.result.at c.in_ok-goes_on.goes_on c.args.pairs.now.items
     c.in_ok-goes_on.ensures.kept c.end-left.ensures.same c.end-right.ensures.same c.in_ok-goes_on.ensures.goes_on
+
+pub returns-then-left-right-clause-goes_on : goal.returns-then-left-right-clause-goes_on
+returns-then-left-right-clause-goes_on c =
+    place_goes_on c.args.heap.now c.args.pair.left.at c.args.pair.right.at c.end-left.result.at c.end-right.result.at c.args.pairs.now.items c.end-left.ensures.same c.end-right.ensures.same c.if-left-right.true
