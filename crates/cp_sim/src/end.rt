@@ -1,7 +1,7 @@
 ghost use Rattle.std.specs.Prelude.{◌≡◌, ◌==◌, true, [], ◌∷◌, IfOk, IfSome, IsTrue, slice_get};
 ghost use Rattle.std.specs.List.{list_any};
 ghost use Rattle.cp_call.specs.Sound.{AreKept, EndsParkedOn, is_parked_on};
-ghost use Rattle.cp_hall.specs.Hall.{objects_of, histories_of, ended_histories};
+ghost use Rattle.cp_hall.specs.Hall.{objects_of, histories_of, ended_histories, CanEnd};
 ghost use Rattle.cp_out.specs.Port.{Records};
 ghost use Rattle.cp_sim.specs.Ended.{HasEnded};
 
@@ -77,7 +77,8 @@ fn outcome_of(
     hall: PlainHall,
     port: OutEntries,
 ) -> Result<Outcome, AllocError>
-    ensures { IfOk result (HasEnded steps object items.items hall port) }
+    ensures ended { IfOk result (HasEnded steps object items.items hall port) }
+    ensures can_end { CanEnd hall }
 {
     let items = items.into_list();
     let preds = hall.into_ends()?;
@@ -104,6 +105,7 @@ pub(crate) fn end<S: Sink>(
 ) -> SimEnd<S>
     ensures outcome { IfSome result.outcome (HasEnded steps object items.items hall port.entries) }
     ensures records { Records S.held S.faults port.first port.entries result.sink }
+    ensures can_end { CanEnd hall }
 {
     let (sink, entries) = port.into_parts();
     SimEnd {
@@ -115,8 +117,11 @@ pub(crate) fn end<S: Sink>(
 /// Ends a run that memory has stopped.
 pub(crate) fn stop<S: Sink>(items: ItemRoom, hall: PlainHall, port: Port<S>) -> SimEnd<S>
     ensures outcome { result.outcome ≡ None }
+    ensures records { Records S.held S.faults port.first port.entries result.sink }
+    ensures can_end { CanEnd hall }
 {
-    let _left = (items, hall);
+    let _left = items;
+    hall.close();
     let (sink, _entries) = port.into_parts();
     SimEnd {
         outcome: None,
