@@ -22,7 +22,7 @@ use Rattle.cp_hall.specs.Hall.{HallObject, objects_of, histories_of, ended_histo
 use Rattle.cp_sim.specs.Ended.{HasGone, HasEnded, IsOfOne, HasRunTo}
 
 -- the history of each object at the end is that of the hall
-ends_at : (preds : List PredEnd) (hall : List HallObject) → ended_histories preds ≡ histories_of hall → (q : ℕ) → sound.history_at preds q ≡ history_at hall q
+pub ends_at : (preds : List PredEnd) (hall : List HallObject) → ended_histories preds ≡ histories_of hall → (q : ℕ) → sound.history_at preds q ≡ history_at hall q
 ends_at [] [] e q = refl
 ends_at [] (o ∷ hall) e q = cc
 ends_at (x ∷ preds) [] e q = cc

@@ -3,6 +3,7 @@ use Rattle.std.specs.Prelude.{◌≡◌, ℕ, IsTrue, List, [], ◌∷◌, Optio
 use Rattle.cp_call.specs.declared.item.Item.{Item}
 use Rattle.cp_call.specs.declared.outcome.Stand.TheVariants as stand
 use Rattle.cp_call.specs.declared.outcome.OutEntry.{OutEntry}
+use Rattle.cp_call.specs.declared.outcome.PredEnd.{PredEnd}
 use Rattle.cp_call.specs.declared.outcome.Outcome.{Outcome}
 use Rattle.cp_call.specs.Sound.{Setup, AreKept, Going, EndsParkedOn, is_parked_on}
 use Rattle.cp_out.specs.Port.{Records}
@@ -22,6 +23,11 @@ pub record HasEnded (steps object : ℕ) (items : List Item) (hall : List HallOb
   pub gone : HasGone steps object items hall port o
   pub last : EndsParkedOn object items
   pub parked : IsTrue (is_parked_on (slice_get o.preds object) 1)
+
+-- Engine 1 was parked on this object by its last event, and is parked there wherever the objects of the hall end.
+pub record RestsOn (object : ℕ) (items : List Item) (hall : List HallObject) : Type 0 where
+  pub last : EndsParkedOn object items
+  pub parked : (preds : List PredEnd) → AreKept (objects_of hall) preds → ended_histories preds ≡ histories_of hall → IsTrue (is_parked_on (slice_get preds object) 1)
 
 -- The outcome is of this budget and of one engine, which is parked.
 pub record IsOfOne (steps : ℕ) (o : Outcome) : Type 0 where

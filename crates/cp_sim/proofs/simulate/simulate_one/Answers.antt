@@ -4,6 +4,7 @@ use Rattle.cp_hall.specs.Hall.{objects_of}
 use Rattle.cp_sim.specs.Ended.{HasRunTo}
 use Rattle.cp_call.specs.Sound.{own_entries, own_writes}
 use Rattle.cp_sim.proofs.Sounding.{one_is_sound, one_has_run, new_running, if_some}
+use Rattle.cp_sim.proofs.Resting.{rests_on}
 use Rattle.cp_sim.proofs.simulate.simulate_one.Goals as goal
 
 pub drive-requires-clause-running : goal.drive-requires-clause-running
@@ -40,3 +41,6 @@ returns-clause-ran g c = subst (λ first. (o : Outcome) × HasRunTo g.S.Sink.hel
       own_port = λ m d. c.drive.ensures.others_written.wrote_stays m d ∙ ap (own_writes m) c.new-port.ensures.entries;
       failed = c.stop.ensures.records.stays_failed;
     }) c.stop.ensures.records)
+
+pub end-requires : goal.end-requires
+end-requires g c = rests_on _ _ _ _ _ _ c.drive.ensures.others.objects_stay c.drive.ensures.running (λ m q d. c.drive.ensures.others.own_stay m q d ∙ ap (own_entries m) (c.requires.fresh q)) c.in-Ok.ensures.parked
