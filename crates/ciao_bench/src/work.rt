@@ -1,0 +1,41 @@
+use crate::operators::operators;
+use crate::unify::unify;
+use std::alloc::{AllocError, Global};
+
+/// A piece of work.
+#[derive(Clone, Copy)]
+pub(crate) enum Work {
+    Operators,
+    Unify,
+}
+
+/// The names of all pieces of work.
+pub(crate) const NAMES: &str = "operators or unify";
+
+impl Work {
+    /// The piece of work with this name.
+    pub(crate) fn named(name: &str) -> Option<Work> {
+        if name == "operators" {
+            Some(Work::Operators)
+        } else if name == "unify" {
+            Some(Work::Unify)
+        } else {
+            None
+        }
+    }
+
+    pub(crate) fn name(self) -> &'static str {
+        match self {
+            Work::Operators => "operators",
+            Work::Unify => "unify",
+        }
+    }
+
+    /// Does the work so many times, and answers a number that depends on all of them.
+    pub(crate) fn done(self, alloc: Global, count: u32) -> Result<u64, AllocError> {
+        match self {
+            Work::Operators => operators(alloc, count),
+            Work::Unify => unify(alloc, count),
+        }
+    }
+}
