@@ -1,0 +1,2 @@
+//! Programs, and what their goals do.
+#![tactic(auto)]
