@@ -5,3 +5,4 @@ pub mod Code
 pub mod Goals
 pub mod Requests
 pub mod Tree
+pub mod Laws
