@@ -1,0 +1,1 @@
+use Rattle.cp_term.proofs.classes.first_pairs.Goals as goal
