@@ -1,6 +1,6 @@
 -- A walk through all classes along the arguments of their schemas, depth first. A class that is met below itself is a
 -- cycle; where there is none, each class that is left gets the term that its schema makes of those of its arguments.
-use Rattle.std.specs.Prelude.{◌≡◌, ◌⊎◌, ℕ, zero, suc, ◌<◌, Bool, true, false, ◌++◌, length, get_or, List, [], ◌∷◌}
+use Rattle.std.specs.Prelude.{◌≡◌, ◌⊎◌, ℕ, zero, suc, ◌<◌, Bool, true, false, ◌+◌, length, get_or, List, [], ◌∷◌}
 use Rattle.std.specs.List.{flat_map}
 use Rattle.cp_term.specs.declared.cell.Cell.{Cell}
 use Rattle.cp_term.specs.declared.walk.Visit.{Visit}
@@ -79,10 +79,10 @@ pub record Walking (cells : List Cell) (ends : List ℕ) (second : ℕ) (parents
 abbrev pub StoredWalking : Graph → List ℕ → List ℕ → List Progress → List Visit → Type 0
 StoredWalking g parents schemas progress visits = Walking (graph_cells g) g.ends.now g.second parents schemas progress visits
 
--- the visits to all places below a number
-abbrev pub all_entries : ℕ → List Visit
-all_entries zero = []
-all_entries (suc n) = all_entries n ++ Enter n ∷ []
+-- the visits to k places from p on
+abbrev pub all_entries : ℕ → ℕ → List Visit
+all_entries p zero = []
+all_entries p (suc k) = Enter p ∷ all_entries (p + 1) k
 
 abbrev pub is_new : Progress → Bool
 is_new New = true

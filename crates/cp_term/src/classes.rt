@@ -176,9 +176,12 @@ pub fn first_pairs(
         right: second,
     })?;
     for at in 0..cells.len() {
-        if let Some(variable) = cells[at].variable() {
-            let left = first_place(firsts.as_mut_slice(), variable as usize, at);
-            pairs.push(Pair { left, right: at })?;
+        match cells[at].variable() {
+            Some(variable) => {
+                let left = first_place(firsts.as_mut_slice(), variable as usize, at);
+                pairs.push(Pair { left, right: at })?;
+            }
+            None => {}
         }
     }
     Ok(pairs)

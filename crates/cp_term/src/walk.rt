@@ -98,7 +98,7 @@ fn visited(
 }
 
 fn all_places(alloc: Global, count: usize) -> Result<Vec<Visit>, AllocError>
-    ensures { IfOk result (λ visits. visits.items ≡ all_entries count) }
+    ensures { IfOk result (λ visits. visits.items ≡ all_entries 0 count) }
 {
     let mut visits = Vec::new(alloc);
     for place in 0..count {

@@ -1,8 +1,8 @@
 -- The pairs that unification begins with: each place of a variable with the first one.
-use Rattle.std.proofs.Common.{◌≡◌, ℕ, zero, suc, ◌+◌, ◌<◌, ◌≤◌, max, inl, inr, length, get_or, set, replicate, List, [], ◌∷◌, ◌++◌, refl, sym, ◌∙◌, ap, subst, arith}
+use Rattle.std.proofs.Common.{◌≡◌, ℕ, zero, suc, ◌+◌, ◌<◌, ◌≤◌, max, inl, inr, length, get_or, set, List, [], ◌∷◌, ◌++◌, refl, sym, ◌∙◌, ap, subst, arith}
 use Rattle.std.specs.Prelude.{Option, Some, None, unwrap_or}
 use Rattle.std.proofs.lemmas.Bool.{cases_eq, cases_lt}
-use Rattle.std.proofs.lemmas.List.{length-set, length-replicate, get_or-set_same, get_or-set_other}
+use Rattle.std.proofs.lemmas.List.{length-set, get_or-set_same, get_or-set_other}
 use Rattle.cp_term.specs.declared.cell.Cell.{Cell}
 use Rattle.cp_term.specs.declared.cell.Cell.TheVariants.{Var, Int, Atom, Func}
 use Rattle.cp_term.specs.declared.classes.Pair.{Pair}
@@ -118,25 +118,7 @@ module _ (cells : List Cell) (second at : ℕ) (firsts : List (Option ℕ)) (pai
           (m.is_model.variables first v (omega arith) k.1 ∙ sym (m.is_model.variables at v below is), tt);
     }
 
--- to begin with
-get_or-none : (n v : ℕ) → get_or (replicate n None) v None ≡ None {A = ℕ}
-get_or-none zero v = refl
-get_or-none (suc n) zero = refl
-get_or-none (suc n) (suc v) = get_or-none n v
-
-pub Seen-start : (cells : List Cell) (second : ℕ) → second < length cells → Seen cells second 0 (replicate (next_variable cells) None) (record { left = 0; right = second } ∷ [])
-Seen-start cells second h = record {
-  len = length-replicate (next_variable cells) None;
-  known = λ v p e. absurd (none_some p (sym (get_or-none (next_variable cells) v) ∙ e));
-  seen = λ p v below e. absurd (omega arith);
-  within = (omega arith, h, tt);
-  equal = λ f a. a.0;
-  sound = λ ends m. (m.equal, tt);
-} where
-  none_some : (v : ℕ) → None ≡ Some v → ⊥
-  none_some v e = cc
-
--- and in the end
+-- in the end
 module _ (cells : List Cell) (second : ℕ) (firsts : List (Option ℕ)) (pairs : List Pair) (s : Seen cells second (length cells) firsts pairs) (some : second < length cells) where
   inside_by : (v : ℕ) (o : Option ℕ) → get_or firsts v None ≡ o → unwrap_or o 0 < length cells
   inside_by v None e = omega arith
