@@ -1,5 +1,5 @@
 -- What the classes of places keep while pairs are joined.
-use Rattle.std.proofs.Common.{◌≡◌, ℕ, zero, suc, ◌+◌, ◌*◌, ◌<◌, ◌≤◌, max, min, inl, inr, ◌⊎◌, true, false, length, get_or, set, sum, map, List, [], ◌∷◌, ◌++◌, refl, sym, ◌∙◌, ap, subst, arith}
+use Rattle.std.proofs.Common.{◌≡◌, ℕ, zero, suc, ◌+◌, ◌<◌, ◌≤◌, max, min, inl, inr, ◌⊎◌, true, false, length, get_or, set, sum, map, List, [], ◌∷◌, ◌++◌, refl, sym, ◌∙◌, ap, subst, arith}
 use Rattle.std.specs.List.{flat_map}
 use mathlib.Core.Path.{subst₂}
 use Rattle.std.specs.Prelude.{Option, Some, None, is_some}
@@ -142,7 +142,7 @@ module _ (cells : List Cell) (ends : List ℕ) (second : ℕ) (g : IsGraph cells
       let left = m.is_model.compounds x schemas-within.0 clash.left in
       let right = m.is_model.compounds y schemas-within.1 clash.right in
       let same : cell_of cells x ∷ flat_map m.term (argument_places cells ends x) ≡ cell_of cells y ∷ flat_map m.term (argument_places cells ends y) =
-          sym left ∙ schemas_term m ∙ right in
+      sym left ∙ schemas_term m ∙ right in
       let first : cell_of cells x ≡ cell_of cells y = cc in
       clash.differ first
 
@@ -308,19 +308,19 @@ module _ (cells : List Cell) (ends : List ℕ) (second : ℕ) (g : IsGraph cells
             (λ e. ap after (schema_into p (inl e)) ∙ into s chosen_root ∙ sym (into p (inl e)))
             (λ e. ap after (schema_into p (inr e)) ∙ into s chosen_root ∙ sym (into p (inr e)))
             (λ nl nr.
-              let inside = j.has_schemas.inside p h in
-              ap after (schema_apart p nl nr)
-              ∙ apart (get_or schemas (j.root p) 0) (λ q. nl (sym inside ∙ q)) (λ q. nr (sym inside ∙ q)) ∙ inside ∙ sym (apart p nl nr));
+            let inside = j.has_schemas.inside p h in
+            ap after (schema_apart p nl nr)
+            ∙ apart (get_or schemas (j.root p) 0) (λ q. nl (sym inside ∙ q)) (λ q. nr (sym inside ∙ q)) ∙ inside ∙ sym (apart p nl nr));
         same = λ p h none. by_class (cell_of cells (get_or schemas_after (after p) 0) ≡ cell_of cells p) p
             (λ e.
-              let same = x_cell p h e none in
-              ap (cell_of cells) (schema_into p (inl e) ∙ combines.left (ap variable_of same ∙ none)) ∙ same)
+            let same = x_cell p h e none in
+            ap (cell_of cells) (schema_into p (inl e) ∙ combines.left (ap variable_of same ∙ none)) ∙ same)
             (λ e.
-              let same = y_cell p h e none in
-              ap (cell_of cells) (schema_into p (inr e)) ∙ (elim (combines.right (ap variable_of same ∙ none)) [
-                | inl q ↦ ap (cell_of cells) q ∙ same
-                | inr q ↦ ap (cell_of cells) q.0 ∙ q.1 ∙ same
-              ]))
+            let same = y_cell p h e none in
+            ap (cell_of cells) (schema_into p (inr e)) ∙ (elim (combines.right (ap variable_of same ∙ none)) [
+              | inl q ↦ ap (cell_of cells) q ∙ same
+              | inr q ↦ ap (cell_of cells) q.0 ∙ q.1 ∙ same
+            ]))
             (λ nl nr. ap (cell_of cells) (schema_apart p nl nr) ∙ j.has_schemas.same p h none);
       }
 
@@ -362,7 +362,7 @@ module _ (cells : List Cell) (ends : List ℕ) (second : ℕ) (g : IsGraph cells
             let left = m.is_model.compounds x schemas-within.0 e.0 in
             let right = m.is_model.compounds y schemas-within.1 e.1 in
             let same : cell_of cells x ∷ flat_map m.term (argument_places cells ends x) ≡ cell_of cells y ∷ flat_map m.term (argument_places cells ends y) =
-                sym left ∙ schemas_term m ∙ right in
+            sym left ∙ schemas_term m ∙ right in
             let rest : flat_map m.term (argument_places cells ends x) ≡ flat_map m.term (argument_places cells ends y) = cc in
             Agree-terms m.term ends n count (x + 1) (y + 1) m.is_model.terms (x_inside e.2) (y_inside e.2)
             (ap (flat_map m.term) (sym (x_arguments e.2)) ∙ rest ∙ ap (flat_map m.term) (y_arguments e.2))
@@ -410,17 +410,17 @@ module _ (cells : List Cell) (ends : List ℕ) (second : ℕ) (g : IsGraph cells
           variables = before.variables;
           compounds = λ p h none. by_class (map f (argument_places cells ends (get_or schemas_after (after p) 0)) ≡ map f (argument_places cells ends p)) p
               (λ e.
-                let same = x_cell p h e none in
-                ap (λ q. map f (argument_places cells ends q)) (schema_into p (inl e) ∙ combines.left (ap variable_of same ∙ none))
-                ∙ ap (λ q. map f (argument_places cells ends (get_or schemas q 0))) (sym e) ∙ before.compounds p h none)
+              let same = x_cell p h e none in
+              ap (λ q. map f (argument_places cells ends q)) (schema_into p (inl e) ∙ combines.left (ap variable_of same ∙ none))
+              ∙ ap (λ q. map f (argument_places cells ends (get_or schemas q 0))) (sym e) ∙ before.compounds p h none)
               (λ e.
-                let same = y_cell p h e none in
-                let old : map f (argument_places cells ends y) ≡ map f (argument_places cells ends p) =
-                    ap (λ q. map f (argument_places cells ends (get_or schemas q 0))) (sym e) ∙ before.compounds p h none in
-                ap (λ q. map f (argument_places cells ends q)) (schema_into p (inr e)) ∙ (elim (combines.right (ap variable_of same ∙ none)) [
-                  | inl q ↦ ap (λ k. map f (argument_places cells ends k)) q ∙ old
-                  | inr q ↦ ap (λ k. map f (argument_places cells ends k)) q.0 ∙ arguments_agree q.1 ∙ old
-                ]))
+              let same = y_cell p h e none in
+              let old : map f (argument_places cells ends y) ≡ map f (argument_places cells ends p) =
+              ap (λ q. map f (argument_places cells ends (get_or schemas q 0))) (sym e) ∙ before.compounds p h none in
+              ap (λ q. map f (argument_places cells ends q)) (schema_into p (inr e)) ∙ (elim (combines.right (ap variable_of same ∙ none)) [
+                | inl q ↦ ap (λ k. map f (argument_places cells ends k)) q ∙ old
+                | inr q ↦ ap (λ k. map f (argument_places cells ends k)) q.0 ∙ arguments_agree q.1 ∙ old
+              ]))
               (λ nl nr. ap (λ q. map f (argument_places cells ends q)) (schema_apart p nl nr) ∙ before.compounds p h none);
         }
 

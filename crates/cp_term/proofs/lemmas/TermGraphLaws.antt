@@ -1,19 +1,19 @@
 -- What the graph of two terms says, and that its models are the unifiers of the two.
-use Rattle.std.proofs.Common.{◌≡◌, ℕ, zero, suc, ◌+◌, ◌-◌, ◌<◌, ◌≤◌, inl, inr, Bool, true, false, ◌&&◌, nat_lt, length, get_or, set, take, drop, map, List, [], ◌∷◌, ◌++◌, refl, sym, ◌∙◌, ap, subst, arith, length-drop, append-nil, take-append-drop}
+use Rattle.std.proofs.Common.{◌≡◌, ℕ, zero, suc, ◌+◌, ◌<◌, ◌≤◌, inl, inr, true, nat_lt, length, get_or, set, take, drop, List, [], ◌∷◌, ◌++◌, refl, sym, ◌∙◌, ap, subst, arith, append-nil, take-append-drop}
 use Rattle.std.specs.List.{flat_map}
-use Rattle.std.specs.Prelude.{Option, Some, None, ◌↔◌}
-use Rattle.std.proofs.Math.Nat.{zero-add, suc-add, add-zero, add_assoc}
+use Rattle.std.specs.Prelude.{None}
+use Rattle.std.proofs.Math.Nat.{zero-add, suc-add, add-zero}
 use Rattle.std.proofs.lemmas.Bool.{and_parts, false≢true, ltb-true, cases_lt, cases_eq}
-use Rattle.std.proofs.lemmas.List.{drop_more, drop_all, get_or_default, get_or_past, get_or-set_same, get_or-set_other, get_or-map, append_cancel_left}
+use Rattle.std.proofs.lemmas.List.{drop_more, drop_all, get_or_default, get_or_past, get_or-set_same, get_or-set_other, get_or-map}
 use Rattle.cp_term.specs.declared.cell.Cell.{Cell}
 use Rattle.cp_term.specs.declared.cell.Cell.TheVariants.{Var, Int, Atom, Func}
 use Rattle.cp_term.specs.declared.cell_ref.CellRef.{CellRef}
 use Rattle.cp_term.specs.CellRefs.{variable_of, cell_at, cells_at}
-use Rattle.cp_term.specs.Preorder.{arity_of, is_arity, has_arity, terms_after, is_terms, take_terms, drop_terms}
-use Rattle.cp_term.specs.Substitution.{instance_cell, instance}
-use Rattle.cp_term.specs.Unifier.{IsUnifier, HasUnifier, GivesTerms}
+use Rattle.cp_term.specs.Preorder.{arity_of, has_arity, terms_after, is_terms, take_terms, drop_terms}
+use Rattle.cp_term.specs.Substitution.{instance}
+use Rattle.cp_term.specs.Unifier.{HasUnifier, GivesTerms}
 use Rattle.cp_term.specs.TermGraph.{cell_of, next_of, end_of, places, argument_places, Every, EndsFrom, IsGraph, IsModel, Model}
-use Rattle.cp_term.proofs.lemmas.PreorderLaws.{terms_after-add, terms_after-arity, take_terms-drop_terms, is_terms-append, is_terms-take_terms, is_terms-drop_terms, take_terms-append}
+use Rattle.cp_term.proofs.lemmas.PreorderLaws.{terms_after-add, terms_after-arity, is_terms-append, is_terms-take_terms, is_terms-drop_terms, take_terms-append}
 use Rattle.cp_term.proofs.lemmas.SubstitutionLaws.{instance-append, is_terms-instance}
 
 -- the cell that was read
@@ -79,15 +79,17 @@ module _ (cells : List Cell) where
         let same : next_of ends p ≡ get_or ends p 0 = get_or_default ends p p 0 (omega arith) in
         let later : from ≤ next_of ends p = omega arith in
         let rest = end_of-drop from ends len table k (next_of ends p) later in
-        let one : suc k ≡ 1 + k = omega arith in
-        (omega arith,
-          rest.1 ∙ ap (λ q. drop_terms k (drop q cells)) same ∙ ap (drop_terms k) entry.1 ∙ sym (drop_terms-add 1 k (drop p cells)) ∙ ap (λ j. drop_terms j (drop p cells)) (sym one))
+        let one : suc k ≡ 1 + k = omega arith in (
+          omega arith,
+          rest.1 ∙ ap (λ q. drop_terms k (drop q cells)) same ∙ ap (drop_terms k) entry.1 ∙ sym (drop_terms-add 1 k (drop p cells)) ∙ ap (λ j. drop_terms j (drop p cells)) (sym one),
+        )
     | inr above ↦
         let same : next_of ends p ≡ p = get_or_past ends p p (omega arith) in
         let rest = end_of-drop from ends len table k (next_of ends p) (omega arith) in
-        let gone : drop p cells ≡ [] = drop_all p cells above in
-        (omega arith,
-          rest.1 ∙ ap (λ q. drop_terms k (drop q cells)) same ∙ ap (drop_terms k) gone ∙ drop_terms-nil k ∙ sym (drop_terms-nil (suc k)) ∙ ap (drop_terms (suc k)) (sym gone))
+        let gone : drop p cells ≡ [] = drop_all p cells above in (
+          omega arith,
+          rest.1 ∙ ap (λ q. drop_terms k (drop q cells)) same ∙ ap (drop_terms k) gone ∙ drop_terms-nil k ∙ sym (drop_terms-nil (suc k)) ∙ ap (drop_terms (suc k)) (sym gone),
+        )
   ]
 
   -- one more entry
@@ -98,10 +100,11 @@ module _ (cells : List Cell) where
         let k = arity_of (cell_of cells p) in
         let found = end_of-drop (p + 1) ends len table k (p + 1) (omega arith) in
         let same : get_or (set ends p end) q 0 ≡ end = ap (λ j. get_or (set ends p end) j 0) e ∙ get_or-set_same ends p end 0 (omega arith) in
-        let arity : terms_after (cell_of cells p) 0 ≡ k = terms_after-arity (cell_of cells p) 0 ∙ zero-add k in
-        (omega arith,
+        let arity : terms_after (cell_of cells p) 0 ≡ k = terms_after-arity (cell_of cells p) 0 ∙ zero-add k in (
+          omega arith,
           ap (λ j. drop j cells) (same ∙ is) ∙ found.1 ∙ ap (λ j. drop_terms j (drop (p + 1) cells)) (sym arity)
-          ∙ sym (ap (drop_terms 1) (at p below)) ∙ ap (λ j. drop_terms 1 (drop j cells)) (sym e))
+              ∙ sym (ap (drop_terms 1) (at p below)) ∙ ap (λ j. drop_terms 1 (drop j cells)) (sym e),
+        )
     | inr ne ↦
         let same : get_or (set ends p end) q 0 ≡ get_or ends q 0 = get_or-set_other ends p q end 0 ne in
         let entry = table q (omega arith) h in
@@ -248,7 +251,7 @@ module _ (cells : List Cell) (ends : List ℕ) (g : IsGraph cells ends) where
         let c = cell_of cells p in
         let later = next-later p more.0 in
         let first : term p ≡ instance value (take_terms 1 (drop p cells)) =
-            first_by c p more.0 refl (λ none. flat_by size (arity_of c) known.0 (p + 1) (omega arith) known.3) in
+        first_by c p more.0 refl (λ none. flat_by size (arity_of c) known.0 (p + 1) (omega arith) known.3) in
         (λ i. first i ++ flat_by size k n (next_of ends p) (omega arith) more.2 i)
         ∙ ap (λ xs. instance value (take_terms 1 (drop p cells)) ++ instance value (take_terms k xs)) (next-drop p more.0)
         ∙ sym (first_and_rest value k (drop p cells))
@@ -287,10 +290,12 @@ module _ (cells : List Cell) (second : ℕ) (ha : is_terms 1 (take second cells)
 
     pub Model-unifier : Model cells ends second → HasUnifier (take second cells) (drop second cells)
     Model-unifier m =
-        let below = second-within in
-        (m.value, record {
-          terms = m.is_model.values;
-          equal =
-              ap (instance m.value) (sym left) ∙ sym (model-instance cells ends g m.value m.term m.is_model 0 (omega arith))
-              ∙ m.equal ∙ model-instance cells ends g m.value m.term m.is_model second below ∙ ap (instance m.value) right;
-        })
+        let below = second-within in (
+          m.value,
+          record {
+            terms = m.is_model.values;
+            equal =
+                ap (instance m.value) (sym left) ∙ sym (model-instance cells ends g m.value m.term m.is_model 0 (omega arith))
+                ∙ m.equal ∙ model-instance cells ends g m.value m.term m.is_model second below ∙ ap (instance m.value) right;
+          },
+        )

@@ -1,16 +1,18 @@
 -- Unification gives a unifier exactly where there is one.
-use Rattle.std.proofs.Common.{◌≡◌, ℕ, zero, suc, ◌+◌, max, min, true, false, cond, ◌↔◌, IsTrue, List, [], ◌∷◌, ◌++◌, refl, sym, ◌∙◌, ap, subst, arith}
+use Rattle.std.proofs.Common.{◌≡◌, ℕ, zero, suc, ◌+◌, max, min, Bool, true, false, length, take, drop, cond, ◌↔◌, IsTrue, List, [], ◌∷◌, ◌++◌, refl, sym, ◌∙◌, ap, subst, arith}
+use mathlib.Core.Path.{subst₂}
+use Rattle.std.proofs.lemmas.List.{take_at, drop_at}
 use Rattle.std.specs.Prelude.{Option, Some, None, is_some}
 use Rattle.std.proofs.lemmas.Bool.{and_parts, false≢true}
 use Rattle.cp_term.specs.declared.cell.Cell.{Cell}
 use Rattle.cp_term.specs.declared.cell.Cell.TheVariants.{Var, Int, Atom, Func}
 use Rattle.cp_term.specs.CellEq.{cell_eq, cell_eq-true}
 use Rattle.cp_term.specs.Preorder.{has_arity, terms_after, is_terms, take_terms}
-use Rattle.cp_term.specs.Numbering.{occurs}
+use Rattle.cp_term.specs.Numbering.{occurs, fresh, next_variable}
 use Rattle.cp_term.specs.Substitution.{instance, Substitution, apply}
-use Rattle.cp_term.specs.Unification.{Disagreement, Same, Clash, Bind, bound_to, first_disagreement, disagreement, disagreement_under, unify_by, unify}
+use Rattle.cp_term.specs.Unification.{Disagreement, Same, Clash, Bind, bound_to, first_disagreement, disagreement, disagreement_under, unify_by, unify, unifiable_apart}
 use Rattle.cp_term.specs.Unifier.{IsUnifier, HasUnifier, IsMostGeneral}
-use Rattle.cp_term.proofs.lemmas.PreorderLaws.{is_terms-take_terms}
+use Rattle.cp_term.proofs.lemmas.PreorderLaws.{is_terms-take_terms, is_terms-map_renamed}
 use Rattle.cp_term.proofs.lemmas.SubstitutionLaws.{apply-append, apply-nil, apply-Int, apply-Atom, apply-Func, OfTerms, OfTerms-more, is_terms-apply}
 use Rattle.cp_term.proofs.lemmas.UnificationLaws.{first_disagreement-cases, unify-equal}
 use Rattle.cp_term.proofs.lemmas.MostGeneral.{GivesMoreGeneral, unify-most_general}
@@ -105,3 +107,34 @@ module _ (a b : List Cell) (ha : is_terms 1 a ≡ true) (hb : is_terms 1 b ≡ t
 
   pub unify-general : (r : Substitution) → unify [] a b ≡ Some r → IsMostGeneral a b r
   unify-general r h = record { equal = unify-equal [] a b r h; general = λ value u. more_general value u (Some r) h }
+
+-- ---- two terms, one after the other, with the variables of the second renamed apart
+
+same_test : (s t : Bool) (P : Type 0) → (IsTrue s ↔ P) → (IsTrue t ↔ P) → s ≡ t
+same_test true true P h k = refl
+same_test false false P h k = refl
+same_test true false P h k = sym (k.1 (h.0 refl))
+same_test false true P h k = h.1 (k.0 refl)
+
+module _ (a b cells : List Cell) (second shift : ℕ) (all : cells ≡ a ++ fresh shift b) (len : second ≡ length a) where
+  pub first_part : take second cells ≡ a
+  first_part = ap (take second) all ∙ take_at a (fresh shift b) second (sym len)
+
+  pub second_part : drop second cells ≡ fresh shift b
+  second_part = ap (drop second) all ∙ drop_at a (fresh shift b) second (sym len)
+
+  module _ (ha : is_terms 1 a ≡ true) (hb : is_terms 1 b ≡ true) where
+    pub first-term : is_terms 1 (take second cells) ≡ true
+    first-term = ap (is_terms 1) first_part ∙ ha
+
+    fresh-term : is_terms 1 (fresh shift b) ≡ true
+    fresh-term = is_terms-map_renamed (λ v. v + shift) 1 b ∙ hb
+
+    pub second-term : is_terms 1 (drop second cells) ≡ true
+    second-term = ap (is_terms 1) second_part ∙ fresh-term
+
+    pub unifiable-by : shift ≡ next_variable a → (t : Bool) → (IsTrue t ↔ HasUnifier (take second cells) (drop second cells)) → t ≡ unifiable_apart a b
+    unifiable-by above t h =
+        same_test t (is_some (unify [] a (fresh shift b))) (HasUnifier a (fresh shift b))
+        (subst₂ (λ x y. IsTrue t ↔ HasUnifier x y) first_part second_part h) (unify-exact a (fresh shift b) ha fresh-term)
+        ∙ ap (λ n. is_some (unify [] a (fresh n b))) above

@@ -1,10 +1,10 @@
 -- What the walk through all classes keeps, and what it shows at its end.
-use Rattle.std.proofs.Common.{◌≡◌, ℕ, zero, suc, ◌+◌, ◌*◌, ◌<◌, ◌≤◌, inl, inr, ◌⊎◌, Bool, true, false, cond, ◌&&◌, nat_eq, length, get_or, set, replicate, map, List, [], ◌∷◌, ◌++◌, refl, sym, ◌∙◌, ap, subst, arith, length-append, append-nil, length-replicate}
+use Rattle.std.proofs.Common.{◌≡◌, ℕ, zero, suc, ◌+◌, ◌*◌, ◌<◌, ◌≤◌, inl, inr, ◌⊎◌, true, cond, nat_eq, length, get_or, set, replicate, map, List, [], ◌∷◌, ◌++◌, refl, sym, ◌∙◌, ap, subst, arith, length-append, append-nil, append_assoc}
 use Rattle.std.specs.List.{flat_map, count_by}
 use Rattle.std.specs.Prelude.{Option, Some, None}
 use Rattle.std.proofs.Math.Nat.{zero-add}
 use Rattle.std.proofs.lemmas.Bool.{cases_eq, and_from, eq-eqb, ne_eqb, cond-true, cond-false}
-use Rattle.std.proofs.lemmas.List.{length-set, get_or-set_same, get_or-set_other}
+use Rattle.std.proofs.lemmas.List.{length-set, length-replicate, get_or-set_same, get_or-set_other}
 use Rattle.std.proofs.lemmas.List.Sums.{sum_by-set}
 use Rattle.cp_term.specs.declared.cell.Cell.{Cell}
 use Rattle.cp_term.specs.declared.cell.Cell.TheVariants.{Var, Int, Atom, Func}
@@ -15,7 +15,7 @@ use Rattle.cp_term.specs.declared.walk.Progress.TheVariants.{New, Open, Done}
 use Rattle.cp_term.specs.CellRefs.{variable_of}
 use Rattle.cp_term.specs.Preorder.{arity_of, has_arity, is_terms, terms_after}
 use Rattle.cp_term.specs.TermGraph.{cell_of, next_of, places, argument_places, Every, IsGraph, Model}
-use Rattle.cp_term.specs.Classes.{Falls, IsForest, IsClosed, HasSchemas, Joining}
+use Rattle.cp_term.specs.Classes.{Falls, IsForest, Joining}
 use Rattle.cp_term.specs.Walk.{Some_of, visited_place, entries, IsDone, Finishes, WillBeDone, IsInOrder, Shrinks, IsBuilt, Walking, all_entries, is_new}
 use Rattle.cp_term.proofs.lemmas.PreorderLaws.{is_terms-append, terms_after-arity}
 use Rattle.cp_term.proofs.lemmas.TermGraphLaws.{at_place, arguments-within, arity-within}
@@ -86,9 +86,11 @@ entries-Every P ends (suc k) p h = (h.0, entries-Every P ends k (next_of ends p)
 
 entries-finish : (root : ℕ → ℕ) (ends : List ℕ) (k p : ℕ) → Every (λ q. Some_of (Finishes root q) (entries ends k p)) (places ends k p)
 entries-finish root ends zero p = tt
-entries-finish root ends (suc k) p =
-    (inl refl, Every-map (λ q. Some_of (Finishes root q) (entries ends k (next_of ends p))) (λ q. Some_of (Finishes root q) (entries ends (suc k) p))
-        (places ends k (next_of ends p)) (λ q h. inr h) (entries-finish root ends k (next_of ends p)))
+entries-finish root ends (suc k) p = (
+  inl refl,
+  Every-map (λ q. Some_of (Finishes root q) (entries ends k (next_of ends p))) (λ q. Some_of (Finishes root q) (entries ends (suc k) p))
+      (places ends k (next_of ends p)) (λ q h. inr h) (entries-finish root ends k (next_of ends p)),
+)
 
 entries-in_order : (cells : List Cell) (ends schemas : List ℕ) (root : ℕ → ℕ) (progress : List Progress) (k p : ℕ) → IsInOrder cells ends schemas root progress (entries ends k p)
 entries-in_order cells ends schemas root progress zero p = tt
@@ -134,10 +136,11 @@ module _ (size : ℕ → ℕ) (v : Visit) where
   shrinks-after new (Enter p ∷ xs) small k h = shrinks-after new xs small k h
   shrinks-after new (Leave r ∷ xs) small k h =
       let front = Every-front (λ x. size (visited_place x) < size r) xs (v ∷ []) h.0 in
-      let last : size (visited_place v) < size r = (Every-back (λ x. size (visited_place x) < size r) xs (v ∷ []) h.0).0 in
-      (Every-join (λ x. size (visited_place x) < size r) xs new front
-          (Every-map (λ x. size (visited_place x) ≤ size (visited_place v)) (λ x. size (visited_place x) < size r) new (λ x le. omega arith) small),
-        shrinks-after new xs small k h.1)
+      let last : size (visited_place v) < size r = (Every-back (λ x. size (visited_place x) < size r) xs (v ∷ []) h.0).0 in (
+        Every-join (λ x. size (visited_place x) < size r) xs new front
+            (Every-map (λ x. size (visited_place x) ≤ size (visited_place v)) (λ x. size (visited_place x) < size r) new (λ x le. omega arith) small),
+        shrinks-after new xs small k h.1,
+      )
 
   -- the last visit is below each class that is open
   shrinks-below : (r : ℕ) (xs : List Visit) → Shrinks size (xs ++ v ∷ []) → Some_of (λ x. x ≡ Leave r) xs → size (visited_place v) < size r
@@ -284,10 +287,11 @@ module _ (cells : List Cell) (ends : List ℕ) (second : ℕ) (g : IsGraph cells
         finish q e = inr (inl (ap w.root e))
 
         more_order : IsInOrder cells ends schemas w.root after more
-        more_order =
-            (Every-map (λ q. Some_of (Finishes w.root q) (entries ends count (s + 1))) (WillBeDone w.root after (entries ends count (s + 1)))
-                (argument_places cells ends s) (λ q h. inr h) (entries-finish w.root ends count (s + 1)),
-              entries-in_order cells ends schemas w.root after count (s + 1))
+        more_order = (
+          Every-map (λ q. Some_of (Finishes w.root q) (entries ends count (s + 1))) (WillBeDone w.root after (entries ends count (s + 1)))
+              (argument_places cells ends s) (λ q h. inr h) (entries-finish w.root ends count (s + 1)),
+          entries-in_order cells ends schemas w.root after count (s + 1),
+        )
 
         schema_size : (m : Model cells ends second) → m.term s ≡ m.term r
         schema_size m = w.sound m s s_below ∙ ap m.term (w.has_schemas.inside p below)
@@ -309,15 +313,17 @@ module _ (cells : List Cell) (ends : List ℕ) (second : ℕ) (g : IsGraph cells
 
         more_small : (m : Model cells ends second) → Every (λ x. length (m.term (visited_place x)) ≤ length (m.term p)) more
         more_small m =
-            let same = ap length (w.sound m p below) in
-            (omega arith,
+            let same = ap length (w.sound m p below) in (
+              omega arith,
               entries-Every (λ x. length (m.term (visited_place x)) ≤ length (m.term p)) ends count (s + 1)
-                  (Every-map (λ q. length (m.term q) < length (m.term r)) (λ q. length (m.term q) ≤ length (m.term p)) (argument_places cells ends s) (λ q h. omega arith) (smaller m)))
+                  (Every-map (λ q. length (m.term q) < length (m.term r)) (λ q. length (m.term q) ≤ length (m.term p)) (argument_places cells ends s) (λ q h. omega arith) (smaller m)),
+            )
 
         more_shrinks : (m : Model cells ends second) → Shrinks (λ q. length (m.term q)) more
-        more_shrinks m =
-            (entries-Every (λ x. length (m.term (visited_place x)) < length (m.term r)) ends count (s + 1) (smaller m),
-              entries-shrink (λ q. length (m.term q)) ends count (s + 1))
+        more_shrinks m = (
+          entries-Every (λ x. length (m.term (visited_place x)) < length (m.term r)) ends count (s + 1) (smaller m),
+          entries-shrink (λ q. length (m.term q)) ends count (s + 1),
+        )
 
         more_within : Every (λ x. visited_place x < n) more
         more_within = (r_below, entries-Every (λ x. visited_place x < n) ends count (s + 1) (arguments-within cells ends g s s_below))
@@ -401,8 +407,8 @@ module _ (cells : List Cell) (ends : List ℕ) (second : ℕ) (g : IsGraph cells
         let c = cell_of cells (get_or schemas r 0) in
         let rest = flat_map (λ x. w.term (w.root x)) (arguments_of r) in
         let terms = flat_map-terms (λ x. w.term (w.root x)) ends (arity_of c) (get_or schemas r 0 + 1)
-            (Every-both (λ q. IsDone progress (w.root q)) (λ q. q < length cells) (λ q. is_terms 1 (w.term (w.root q)) ≡ true) (arguments_of r)
-            (λ q d h. (w.built (w.root q) (root-within (Leave r) w q h) d).is_term) arguments_done arguments_inside) in
+        (Every-both (λ q. IsDone progress (w.root q)) (λ q. q < length cells) (λ q. is_terms 1 (w.term (w.root q)) ≡ true) (arguments_of r)
+        (λ q d h. (w.built (w.root q) (root-within (Leave r) w q h) d).is_term) arguments_done arguments_inside) in
         and_from (has_arity c) (is_terms (terms_after c 0) rest) (at_place cells ends g (get_or schemas r 0) (w.has_schemas.within r r_inside)).1
         (ap (λ k. is_terms k rest) (terms_after-arity c 0 ∙ zero-add (arity_of c)) ∙ terms)
 
@@ -468,10 +474,10 @@ module _ (cells : List Cell) (ends : List ℕ) (second : ℕ) (g : IsGraph cells
       Left-built : Left
       Left-built = Left-by term_after (λ q h d. elim (cases_eq q r) [
         | inl e ↦ record {
-            is_term = ap (λ x. is_terms 1 (term_after x)) e ∙ ap (is_terms 1) term_at ∙ made_is_term;
-            made = ap term_after e ∙ term_at ∙ same_made r arguments_done ∙ ap (made_of term_after) (sym e);
-            arguments = subst (λ x. Every (λ y. IsDone left (w.root y)) (arguments_of x)) (sym e) (kept_arguments r arguments_done);
-          }
+          is_term = ap (λ x. is_terms 1 (term_after x)) e ∙ ap (is_terms 1) term_at ∙ made_is_term;
+          made = ap term_after e ∙ term_at ∙ same_made r arguments_done ∙ ap (made_of term_after) (sym e);
+          arguments = subst (λ x. Every (λ y. IsDone left (w.root y)) (arguments_of x)) (sym e) (kept_arguments r arguments_done);
+        }
         | inr ne ↦
             let old = w.built q h (sym (left_other q ne) ∙ d) in
             record {
@@ -488,6 +494,47 @@ module _ (cells : List Cell) (ends : List ℕ) (second : ℕ) (g : IsGraph cells
 
     pub Walking-left : Left
     Walking-left = by_progress (get_or progress r New) refl
+
+-- ---- the same, where the root is known by another name
+
+module _ (cells : List Cell) (ends : List ℕ) (second : ℕ) (g : IsGraph cells ends) (parents schemas : List ℕ) (progress : List Progress) (visits : List Visit)
+    (p : ℕ) (w : Walking cells ends second parents schemas progress (visits ++ Enter p ∷ [])) (r : ℕ) (at_root : r ≡ w.root p) where
+  pub named-no_model : get_or progress r New ≡ Open → Model cells ends second → ⊥
+  named-no_model e = open-no_model cells ends second g parents schemas progress visits p w (ap (λ x. get_or progress x New) (sym at_root) ∙ e)
+
+  pub named-within : r < length cells
+  named-within = subst (λ x. x < length cells) (sym at_root)
+      (root-within cells ends second g parents schemas progress visits (Enter p) w p (last-within cells ends second g parents schemas progress visits (Enter p) w))
+
+  module _ (now : List ℕ) (len : length now ≡ length cells) (falls : Falls now) (forest : IsForest now w.root) where
+    pub named-done : get_or progress r New ≡ Done → Walking cells ends second now schemas progress visits
+    named-done e = Walking-done cells ends second g parents schemas progress visits p w now len falls forest (ap (λ x. get_or progress x New) (sym at_root) ∙ e)
+
+    abbrev opened : ℕ → ℕ → List Visit
+    opened x k = (visits ++ Leave x ∷ []) ++ entries ends k (get_or schemas x 0 + 1)
+
+    abbrev Opened : ℕ → ℕ → Type 0
+    Opened x k =
+        Walking cells ends second now schemas (set progress x Open) (opened x k)
+        × (257 * count_by is_new (set progress x Open) + length (opened x k) ≤ 257 * count_by is_new progress + length visits)
+
+    opened_at : get_or progress (w.root p) New ≡ New → Opened (w.root p) (arity_of (cell_of cells (get_or schemas (w.root p) 0)))
+    opened_at e =
+        let k = arity_of (cell_of cells (get_or schemas (w.root p) 0)) in
+        let same = append_assoc visits (Leave (w.root p) ∷ []) (entries ends k (get_or schemas (w.root p) 0 + 1)) in
+        let walking = Walking-open cells ends second g parents schemas progress visits p w now len falls forest e in
+        let few = more-few cells ends second g parents schemas progress visits p w now len falls forest e in
+        let all = length-append visits (Leave (w.root p) ∷ entries ends k (get_or schemas (w.root p) 0 + 1)) in
+        let same_len = ap length same in
+        let inside = named-within in
+        let progress_len = w.progress_len in
+        let less = count-Open progress (w.root p) (omega arith) e in
+        (subst (Walking cells ends second now schemas (set progress (w.root p) Open)) (sym same) walking, omega arith)
+
+    pub named-open : get_or progress r New ≡ New → (k : ℕ) → k ≡ arity_of (cell_of cells (get_or schemas r 0)) → Opened r k
+    named-open e k arity =
+        subst (Opened r) (sym arity)
+        (subst (λ x. Opened x (arity_of (cell_of cells (get_or schemas x 0)))) (sym at_root) (opened_at (ap (λ x. get_or progress x New) (sym at_root) ∙ e)))
 
 -- ---- the beginning
 
@@ -564,7 +611,7 @@ module _ (cells : List Cell) (ends : List ℕ) (second : ℕ) (parents schemas :
       compounds = λ p h none.
           let s = get_or schemas (w.root p) 0 in
           let arguments = flat_map-map w.term w.root (argument_places cells ends s) ∙ ap (flat_map w.term) (w.closed.compounds p h none)
-              ∙ sym (flat_map-map w.term w.root (argument_places cells ends p)) in
+          ∙ sym (flat_map-map w.term w.root (argument_places cells ends p)) in
           (built_at p h).made ∙ (λ i. w.has_schemas.same p h none i ∷ arguments i);
     };
     equal = ap w.term w.closed.equal;

@@ -1,10 +1,8 @@
-use Rattle.std.proofs.Common.{◌≡◌, ◌<◌, length, get_or, sym, ◌∙◌, ap, arith}
+use Rattle.std.proofs.Common.{get_or, sym, ◌∙◌, ap, arith}
 use mathlib.Core.Path.{subst₂}
 use Rattle.std.specs.Prelude.{is_some}
 use Rattle.std.proofs.lemmas.List.{length-map}
-use Rattle.cp_term.specs.CellEq.{cell_eq}
-use Rattle.cp_term.specs.CellRefs.{variable_of, cell_at, cells_at}
-use Rattle.cp_term.specs.TermGraph.{cell_of}
+use Rattle.cp_term.specs.CellRefs.{cell_at}
 use Rattle.cp_term.specs.Classes.{Clashes, Combines}
 use Rattle.cp_term.proofs.lemmas.TermGraphLaws.{cell_of-got}
 use Rattle.cp_term.proofs.lemmas.ClassLaws.{Clashes-from, Combines-from}

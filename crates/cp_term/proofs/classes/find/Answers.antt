@@ -1,4 +1,4 @@
-use Rattle.std.proofs.Common.{◌≡◌, ◌<◌, ◌≤◌, get_or, sym, ◌∙◌, ap, arith, length-set}
+use Rattle.std.proofs.Common.{◌≡◌, ◌<◌, ◌≤◌, get_or, ◌∙◌, arith, length-set}
 use Rattle.cp_term.proofs.lemmas.Forest.{sum-set-le, Falls-set, IsForest-nearer}
 use Rattle.cp_term.proofs.classes.find.Goals as goal
 
@@ -20,7 +20,7 @@ loop-parents-preserved c =
       falls = Falls-set parents at above i.within (omega arith) i.falls;
       sum = let k = sum-set-le parents at above i.within second in omega arith;
       forest = λ root f.
-        let g = i.forest root f in
-        let same : root above ≡ root at = g.0.above parent (omega arith) ∙ g.0.above at i.within in
-        (IsForest-nearer parents root g.0 at above i.within less same, same ∙ g.1);
+          let g = i.forest root f in
+          let same : root above ≡ root at = g.0.above parent (omega arith) ∙ g.0.above at i.within in
+          (IsForest-nearer parents root g.0 at above i.within less same, same ∙ g.1);
     }

@@ -1,6 +1,6 @@
-use Rattle.std.proofs.Common.{◌≡◌, ◌<◌, ◌+◌, length, get_or, set, ◌++◌, ◌∷◌, [], sym, ◌∙◌, ap, arith, subst}
+use Rattle.std.proofs.Common.{◌≡◌, ◌+◌, length, get_or, set, ◌++◌, ◌∷◌, [], sym, ◌∙◌, ap, arith, subst}
 use mathlib.Core.Path.{subst₂}
-use Rattle.std.specs.Prelude.{vec_len, Some, None, unwrap_or, Option, ℕ}
+use Rattle.std.specs.Prelude.{Some, None, unwrap_or}
 use Rattle.std.proofs.lemmas.List.{length-map, length-set, with_items_is}
 use Rattle.cp_term.specs.declared.classes.Pair.{Pair}
 use Rattle.cp_term.specs.CellRefs.{variable_of, cell_at, cells_at}
@@ -32,9 +32,9 @@ loop-at-preserved c = elim c.match-variable.branch [
       let read = cell_of-read refs at c.index-cells-at.result (omega arith) c.index-cells-at.is in
       let is = is_variable_cell (cell_of (cells_at refs) at) v (ap variable_of read ∙ sym w.in-Some.ensures.value) in
       let first : w.first_place-left.result ≡ unwrap_or (get_or firsts v None) at =
-          w.first_place-left.ensures.first ∙ ap (λ xs. unwrap_or (get_or xs v None) at) w.as_mut_slice.ensures.value in
+      w.first_place-left.ensures.first ∙ ap (λ xs. unwrap_or (get_or xs v None) at) w.as_mut_slice.ensures.value in
       let changed : w.first_place-left.new.firsts ≡ set firsts v (Some (unwrap_or (get_or firsts v None) at)) =
-          w.first_place-left.ensures.firsts ∙ (λ i. set (w.as_mut_slice.ensures.value i) v (Some (first i))) in
+      w.first_place-left.ensures.firsts ∙ (λ i. set (w.as_mut_slice.ensures.value i) v (Some (first i))) in
       let same_len = ap length changed in
       let set_len = length-set firsts v (Some (unwrap_or (get_or firsts v None) at)) in
       let vec = c.loop-at.firsts.ok.0 in

@@ -1,9 +1,8 @@
-use Rattle.std.proofs.Common.{◌≡◌, ◌<◌, ◌≤◌, ◌+◌, ◌*◌, length, sum, get_or, ◌++◌, sym, ◌∙◌, ap, arith, length-append, subst}
+use Rattle.std.proofs.Common.{◌≡◌, ◌≤◌, ◌+◌, length, sum, ◌++◌, sym, ◌∙◌, ap, arith, length-append, subst}
 use mathlib.Core.Path.{subst₂}
-use Rattle.std.specs.Prelude.{vec_len, IfSome, MatchOption}
 use Rattle.cp_term.specs.TermGraph.{graph_cells}
-use Rattle.cp_term.specs.Classes.{Falls, Joining}
-use Rattle.cp_term.proofs.lemmas.ClassLaws.{pair-within, named-roots, named-clash, named-same, named-join, more_of}
+use Rattle.cp_term.specs.Classes.{Joining}
+use Rattle.cp_term.proofs.lemmas.ClassLaws.{pair-within, named-clash, named-same, named-join, more_of}
 use Rattle.cp_term.proofs.classes.joined.Goals as goal
 
 pub find-left-requires-clause-within : goal.find-left-requires-clause-within
@@ -47,12 +46,12 @@ returns-in-Some-clause-joining c = λ _.
     let combines = rw c.in-Some.is at c.in_ok-combined.ensures.schema in
     let pairs = rw c.in-Some.is at c.in_ok-combined.ensures.pairs in
     let after = (named-join (graph_cells c.args.graph) c.args.graph.ends.now c.args.graph.second c.requires.graph c.args.parents.now c.args.schemas.now c.args.pairs.now.items c.args.pair j
-        c.find-left.result c.find-right.result left.1 right.1
-        c.find-right.new.parents (c.find-right.auto.parents ∙ c.find-left.auto.parents ∙ j.len) c.find-right.ensures.falls right.0
-        c.if-left-right.false c.in-Some.schema combines).0 in
+    c.find-left.result c.find-right.result left.1 right.1
+    c.find-right.new.parents (c.find-right.auto.parents ∙ c.find-left.auto.parents ∙ j.len) c.find-right.ensures.falls right.0
+    c.if-left-right.false c.in-Some.schema combines).0 in
     let moved = subst₂ (λ ps ss. Joining (graph_cells c.args.graph) c.args.graph.ends.now c.args.graph.second ps ss
-        (c.args.pairs.now.items ++ more_of (graph_cells c.args.graph) c.args.graph.ends.now c.args.schemas.now c.find-left.result c.find-right.result))
-        (sym c.join.ensures.parents) (sym c.join.ensures.schemas) after in
+    (c.args.pairs.now.items ++ more_of (graph_cells c.args.graph) c.args.graph.ends.now c.args.schemas.now c.find-left.result c.find-right.result))
+    (sym c.join.ensures.parents) (sym c.join.ensures.schemas) after in
     subst (Joining (graph_cells c.args.graph) c.args.graph.ends.now c.args.graph.second c.join.new.parents c.join.new.schemas) (sym pairs) moved
 
 pub returns-in-Some-clause-less : goal.returns-in-Some-clause-less
@@ -63,9 +62,9 @@ returns-in-Some-clause-less c = λ _.
     let combines = rw c.in-Some.is at c.in_ok-combined.ensures.schema in
     let pairs = rw c.in-Some.is at c.in_ok-combined.ensures.pairs in
     let after = (named-join (graph_cells c.args.graph) c.args.graph.ends.now c.args.graph.second c.requires.graph c.args.parents.now c.args.schemas.now c.args.pairs.now.items c.args.pair j
-        c.find-left.result c.find-right.result left.1 right.1
-        c.find-right.new.parents (c.find-right.auto.parents ∙ c.find-left.auto.parents ∙ j.len) c.find-right.ensures.falls right.0
-        c.if-left-right.false c.in-Some.schema combines) in
+    c.find-left.result c.find-right.result left.1 right.1
+    c.find-right.new.parents (c.find-right.auto.parents ∙ c.find-left.auto.parents ∙ j.len) c.find-right.ensures.falls right.0
+    c.if-left-right.false c.in-Some.schema combines) in
     let more = more_of (graph_cells c.args.graph) c.args.graph.ends.now c.args.schemas.now c.find-left.result c.find-right.result in
     let lower : sum c.join.new.parents + 1 ≤ sum c.find-right.new.parents = subst (λ ps. sum ps + 1 ≤ sum c.find-right.new.parents) (sym c.join.ensures.parents) after.1 in
     let few : length more ≤ 255 = after.2 in

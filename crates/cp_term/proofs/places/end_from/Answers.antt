@@ -1,5 +1,5 @@
 use Rattle.std.proofs.Common.{◌≡◌, suc, ◌+◌, ◌-◌, sym, ◌∙◌, ap, arith}
-use Rattle.cp_term.specs.TermGraph.{next_of, end_of}
+use Rattle.cp_term.specs.TermGraph.{end_of}
 use Rattle.cp_term.proofs.places.end_from.Goals as goal
 
 pub loop-term-preserved : goal.loop-term-preserved

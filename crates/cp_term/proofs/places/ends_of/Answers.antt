@@ -1,4 +1,4 @@
-use Rattle.std.proofs.Common.{◌≡◌, ◌<◌, ◌+◌, ◌-◌, length, sym, ◌∙◌, ap, subst, arith, length-set}
+use Rattle.std.proofs.Common.{◌≡◌, ◌+◌, ◌-◌, length, sym, ◌∙◌, ap, subst, arith, length-set}
 use Rattle.std.proofs.lemmas.List.{length-map}
 use Rattle.cp_term.specs.CellRefs.{cell_at, cells_at}
 use Rattle.cp_term.specs.Preorder.{arity_of}
@@ -16,7 +16,7 @@ loop-at-preserved c =
     let table : EndsFrom (p + 1) cells ends = let e : c.loop-at.at ≡ p + 1 = omega arith in subst (λ k. EndsFrom k cells ends) e c.loop-at.invariant.2 in
     let read : cell_of cells p ≡ cell_at c.index-cells-at.result = cell_of-read refs p c.index-cells-at.result (omega arith) c.index-cells-at.is in
     let end : c.end_from-end.result ≡ end_of ends (arity_of (cell_of cells p)) (p + 1) =
-        c.end_from-end.ensures ∙ ap (λ xs. end_of xs c.arity.result (p + 1)) c.as_slice.ensures.value
-        ∙ ap (λ k. end_of ends k (p + 1)) (c.arity.ensures ∙ ap arity_of (sym read)) in
+    c.end_from-end.ensures ∙ ap (λ xs. end_of xs c.arity.result (p + 1)) c.as_slice.ensures.value
+    ∙ ap (λ k. end_of ends k (p + 1)) (c.arity.ensures ∙ ap arity_of (sym read)) in
     let same = length-set ends p c.end_from-end.result in
     (omega arith, omega arith, EndsFrom-more cells p c.end_from-end.result ends (omega arith) (omega arith) table end)

@@ -1,4 +1,4 @@
-use Rattle.std.proofs.Common.{◌≡◌, suc, ◌+◌, ◌-◌, List, [], ◌∷◌, ◌++◌, sym, ◌∙◌, ap, arith, append_assoc}
+use Rattle.std.proofs.Common.{◌≡◌, suc, ◌+◌, ◌-◌, [], ◌∷◌, ◌++◌, sym, ◌∙◌, ap, arith, append_assoc}
 use Rattle.cp_term.specs.declared.walk.Visit.TheVariants.{Enter}
 use Rattle.cp_term.specs.Walk.{all_entries}
 use Rattle.cp_term.proofs.walk.all_places.Goals as goal
