@@ -1,6 +1,6 @@
 -- Which goal a name and a number of arguments is, where it is no control: a builtin, or a predicate that a module sees.
 use Rattle.std.specs.Prelude.{ℕ, zero, suc, Bool, ◌||◌, if◌then◌else◌, List, Option, Some, None, slice_get}
-use Rattle.cp_goal.specs.declared.builtin.Builtin.{Builtin}
+use Rattle.cp_goal.specs.declared.builtin.Builtin.{Builtin as TermGoal}
 use Rattle.cp_goal.specs.Names.{builtin_named}
 use Rattle.cp_ops.specs.Text.{Style, quoting, bare}
 use Rattle.cp_code.specs.Bodies.{is}
@@ -10,18 +10,17 @@ use Rattle.cp_code.specs.Code.{Code, Pred}
 pub data FactGoal : Type 0 where
   Current Retract CurrentNb RetractNb AddFront AddBack RetractAll Set Close Open : FactGoal
 
-pub data Known : Type 0 where
+-- the goals of the language that are no control
+pub data Builtin : Type 0 where
   -- unification, order, parts of terms, texts and arithmetic
-  OnTerms : Builtin → Known
+  OnTerms : TermGoal → Builtin
   -- a property as a goal
-  Property : List ℕ → Known
-  Write : Style → Known
-  NewLine : Known
-  OnFacts : FactGoal → Known
-  Post : Known
-  Wait : Known
-  Called : Pred → Known
-  Unknown : Known
+  Property : List ℕ → Builtin
+  Write : Style → Builtin
+  NewLine : Builtin
+  OnFacts : FactGoal → Builtin
+  Post : Builtin
+  Wait : Builtin
 
 abbrev pub fact_goal_named : List ℕ → Option FactGoal
 fact_goal_named f =
@@ -41,9 +40,33 @@ abbrev pub is_property_goal : List ℕ → Bool
 is_property_goal f =
     is f "term" || is f "int" || is f "nnegint" || is f "num" || is f "atm" || is f "struct" || is f "gnd" || is f "constant" || is f "list"
 
-abbrev pub called : Option Pred → Known
-called (Some pred) = Called pred
-called None = Unknown
+abbrev pub or_term_goal : Option TermGoal → Option Builtin → Option Builtin
+or_term_goal (Some b) other = Some (OnTerms b)
+or_term_goal None other = other
+
+abbrev pub on_facts : Option FactGoal → Option Builtin
+on_facts (Some g) = Some (OnFacts g)
+on_facts None = None
+
+abbrev pub with_one_argument : List ℕ → Option Builtin
+with_one_argument f =
+    if is f "write" then Some (Write bare)
+    else if is f "writeq" then Some (Write quoting)
+    else if is f "eng_wait" then Some Wait
+    else if is_property_goal f then Some (Property f)
+    else on_facts (fact_goal_named f)
+
+abbrev pub other_named : List ℕ → ℕ → Option Builtin
+other_named f zero = if is f "nl" then Some NewLine else None
+other_named f (suc zero) = with_one_argument f
+other_named f (suc (suc (suc (suc zero)))) = if is f "eng_call" then Some Post else None
+other_named f k = None
+
+-- the goal of the language with this name and number of arguments; it goes before every predicate
+unfoldable pub builtin_goal : List ℕ → ℕ → Option Builtin
+builtin_goal f k = or_term_goal (builtin_named f k) (other_named f k)
+
+-- ---- predicates
 
 -- the predicate that a module sees under a name and arity
 abbrev pub pred_at : Code → Option ℕ → Option Pred
@@ -52,29 +75,3 @@ pred_at code (Some n) = slice_get code.preds n
 
 abbrev pub seen_pred : Code → List ℕ → List ℕ → ℕ → Option Pred
 seen_pred code m f k = pred_at code (code.sees m f k)
-
--- builtins go before what a module sees
-abbrev pub or_term_goal : Option Builtin → Known → Known
-or_term_goal (Some b) other = OnTerms b
-or_term_goal None other = other
-
-abbrev pub or_fact_goal : Option FactGoal → Known → Known
-or_fact_goal (Some g) other = OnFacts g
-or_fact_goal None other = other
-
-abbrev pub one_known : List ℕ → Known → Known
-one_known f other =
-    if is f "write" then Write bare
-    else if is f "writeq" then Write quoting
-    else if is f "eng_wait" then Wait
-    else if is_property_goal f then Property f
-    else or_fact_goal (fact_goal_named f) other
-
-abbrev pub other_known : List ℕ → ℕ → Known → Known
-other_known f zero other = if is f "nl" then NewLine else other
-other_known f (suc zero) other = one_known f other
-other_known f (suc (suc (suc (suc zero)))) other = if is f "eng_call" then Post else other
-other_known f k other = other
-
-unfoldable pub known : Code → (seer name : List ℕ) → (arity : ℕ) → Known
-known code m f k = or_term_goal (builtin_named f k) (other_known f k (called (seen_pred code m f k)))

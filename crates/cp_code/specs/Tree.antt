@@ -34,7 +34,7 @@ use Rattle.cp_code.specs.Bodies.{Body, Cut, True, Fail, Both, Either, Choose, Ca
 use Rattle.cp_code.specs.Properties.{has}
 use Rattle.cp_code.specs.Checks.{Check, broken_call, held, broken_exit}
 use Rattle.cp_code.specs.Code.{Code, Clause, Pred, Kind, Rules, Shared, Remote, Wrapped}
-use Rattle.cp_code.specs.Goals.{Known, OnTerms, Property, Write, NewLine, OnFacts, Post, Wait, Called, Unknown, known}
+use Rattle.cp_code.specs.Goals.{Builtin, OnTerms, Property, Write, NewLine, OnFacts, Post, Wait, builtin_goal, seen_pred}
 use Rattle.cp_code.specs.Requests.{Asking, Follows, Again, Facts, Fact, Number, Rest, Nothing, Raises, follows, handed_out, functor_of, full_name, existence_error, system_error, fact_asking, pred_asking, post_goal, wait_goal, answers_of, RemoteFollows, Fails, Throws, Breaks, is_unbound, has_module}
 
 -- ---- goals
@@ -405,25 +405,31 @@ abbrev pub first_of : List (List Cell) → List Cell
 first_of [] = []
 first_of (t ∷ ts) = t
 
--- what a goal does, by what it is; its instance, that goal's arguments, and the context of its errors are given
-abbrev pub known_row : Tree → Code → List ℕ → Known → List Cell → List (List Cell) → List Cell → List Item → Substitution → ℕ → ℕ → Left → Run
-known_row again code m (OnTerms b) g args ctx rest s next level left = ended again (builtin b args s next) ctx rest level left
-known_row again code m (Property name) g args ctx rest s next level left = fact_if again (has code.types name (first_of args)) rest s next level left
-known_row again code m (Write style) g args ctx rest s next level left = write again (piece_of code style m args) ctx rest s next level left
-known_row again code m NewLine g args ctx rest s next level left = write again (codes "\n") ctx rest s next level left
-known_row again code m (OnFacts f) g args ctx rest s next level left =
+-- what a goal of the language does; its arguments as they stand and the context of its errors are given
+abbrev pub builtin_row : Tree → Code → List ℕ → Builtin → List (List Cell) → List Cell → List Item → Substitution → ℕ → ℕ → Left → Run
+builtin_row again code m (OnTerms b) args ctx rest s next level left = ended again (builtin b args s next) ctx rest level left
+builtin_row again code m (Property name) args ctx rest s next level left = fact_if again (has code.types name (first_of args)) rest s next level left
+builtin_row again code m (Write style) args ctx rest s next level left = write again (piece_of code style m args) ctx rest s next level left
+builtin_row again code m NewLine args ctx rest s next level left = write again (codes "\n") ctx rest s next level left
+builtin_row again code m (OnFacts f) args ctx rest s next level left =
     ask_or_raise again (fact_asking code f (seen_from m (first_of args)) ctx) ctx rest s next level left
-known_row again code m Post g args ctx rest s next level left = ask_or_raise again (post_goal m args ctx) ctx rest s next level left
-known_row again code m Wait g args ctx rest s next level left = ask_or_raise again (wait_goal args ctx) ctx rest s next level left
-known_row again code m (Called p) g args ctx rest s next level left =
-    call_kind again code p.name p.kind (qualified m p.goals g) rest s next level left
-known_row again code m Unknown g args ctx rest s next level left = raise (existence_error (codes "procedure") ctx) ctx rest left
+builtin_row again code m Post args ctx rest s next level left = ask_or_raise again (post_goal m args ctx) ctx rest s next level left
+builtin_row again code m Wait args ctx rest s next level left = ask_or_raise again (wait_goal args ctx) ctx rest s next level left
+
+-- what the call of a predicate does, or of none
+abbrev pub called_row : Tree → Code → List ℕ → Option Pred → List Cell → List Cell → List Item → Substitution → ℕ → ℕ → Left → Run
+called_row again code m (Some p) g ctx rest s next level left = call_kind again code p.name p.kind (qualified m p.goals g) rest s next level left
+called_row again code m None g ctx rest s next level left = raise (existence_error (codes "procedure") ctx) ctx rest left
+
+abbrev pub named_row : Tree → Code → List ℕ → Option Builtin → (List ℕ × ℕ) → List Cell → List Item → Substitution → ℕ → ℕ → Left → Run
+named_row again code m (Some b) f g rest s next level left = builtin_row again code m b (arguments g) (context m f.0 f.1) rest s next level left
+named_row again code m None f g rest s next level left = called_row again code m (seen_pred code m f.0 f.1) g (context m f.0 f.1) rest s next level left
 
 abbrev pub functor_row : Tree → Code → List ℕ → Option (List ℕ × ℕ) → List Cell → List Item → Substitution → ℕ → ℕ → Left → Run
-functor_row again code m (Some f) g rest s next level left =
-    known_row again code m (known code m f.0 f.1) g (arguments g) (context m f.0 f.1) rest s next level left
+functor_row again code m (Some f) g rest s next level left = named_row again code m (builtin_goal f.0 f.1) f g rest s next level left
 functor_row again code m None g rest s next level left = Ends Done left
 
+-- a goal that is no control, as it stands
 abbrev pub plain_row : Tree → Code → List ℕ → List Cell → List Item → Substitution → ℕ → ℕ → Left → Run
 plain_row again code m g rest s next level left = functor_row again code m (functor_of g) g rest s next level left
 
