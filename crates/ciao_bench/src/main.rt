@@ -7,6 +7,7 @@ mod pieces;
 mod unify;
 mod words;
 mod work;
+mod write;
 
 use std::process::ExitCode;
 use words::Words;

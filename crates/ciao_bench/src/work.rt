@@ -1,5 +1,6 @@
 use crate::operators::operators;
 use crate::unify::unify;
+use crate::write::write;
 use std::alloc::{AllocError, Global};
 
 /// A piece of work.
@@ -7,10 +8,11 @@ use std::alloc::{AllocError, Global};
 pub(crate) enum Work {
     Operators,
     Unify,
+    Write,
 }
 
 /// The names of all pieces of work.
-pub(crate) const NAMES: &str = "operators or unify";
+pub(crate) const NAMES: &str = "operators, unify or write";
 
 impl Work {
     /// The piece of work with this name.
@@ -19,6 +21,8 @@ impl Work {
             Some(Work::Operators)
         } else if name == "unify" {
             Some(Work::Unify)
+        } else if name == "write" {
+            Some(Work::Write)
         } else {
             None
         }
@@ -28,6 +32,7 @@ impl Work {
         match self {
             Work::Operators => "operators",
             Work::Unify => "unify",
+            Work::Write => "write",
         }
     }
 
@@ -36,6 +41,7 @@ impl Work {
         match self {
             Work::Operators => operators(alloc, count),
             Work::Unify => unify(alloc, count),
+            Work::Write => write(alloc, count),
         }
     }
 }

@@ -1,19 +1,19 @@
 -- The definition's text of a term is what its first cell's shape says.
 use Rattle.std.proofs.Common.{◌≡◌, ℕ, zero, suc, ◌≤◌, Bool, true, false, cond, ◌||◌, ◌&&◌, List, [], ◌∷◌, ◌++◌, length, take, drop, refl, sym, ◌∙◌, ap, subst, append_assoc, Some, None, arith}
-use Rattle.std.specs.Prelude.{Option, codes, nat_lt, ◌==◌, if◌then◌else◌}
+use Rattle.std.specs.Prelude.{Option, codes, nat_lt, ◌==◌}
 use Rattle.std.specs.Str.{bytes_eq}
 use Rattle.std.proofs.lemmas.Bool.{ne_eqb}
 use Rattle.cp_term.specs.declared.cell.Cell.{Cell}
 use Rattle.cp_term.specs.declared.cell.Cell.TheVariants.{Var, Int, Atom, Func}
 use Rattle.cp_term.specs.Preorder.{arity_of}
 use Rattle.cp_ops.specs.declared.fix.Fix.{Fix}
-use Rattle.cp_ops.specs.Operators.{Ops, look_up, left_of, right_of, is_operator}
-use Rattle.cp_ops.specs.Text.{Style, Written, simply, Form, operator_atom, no_elements, elements, operation, simple, parenthesized, within, operand, left_operand, left_operand, ends_in_operand, between_commas, canonical, list_of, list_by, prefix_term, infix_term, compound, atom, before_terms, functor_text, name_text, infix_text}
+use Rattle.cp_ops.specs.Operators.{Ops, look_up, left_of, is_operator}
+use Rattle.cp_ops.specs.Text.{Style, Written, simply, Form, operator_atom, no_elements, elements, operation, simple, within, operand, left_operand, left_operand, ends_in_operand, between_commas, canonical, list_of, list_by, prefix_term, infix_term, compound, atom, before_terms, functor_text, name_text}
 use Rattle.cp_write.specs.declared.shape.Shape.{Shape}
-use Rattle.cp_write.specs.declared.shape.Shape.TheVariants.{Leaf, OperatorAtom, NoElements, Element, Braces, Prefix, Infix, Canonical}
+use Rattle.cp_write.specs.declared.shape.Shape.TheVariants.{Leaf, OperatorAtom, NoElements, Element, Braces, Canonical}
 use Rattle.cp_write.specs.declared.place.Place.{Place}
 use Rattle.cp_write.specs.declared.place.Place.TheVariants.{Nothing, Whole, Within, Operand, Left, Tail as TailPlace}
-use Rattle.cp_write.specs.Writing.{prefix_shape, infix_shape, functor_shape, atom_shape, shape_of, priority_in, is_parenthesized_operand, would_take, first_term, tail_by, tail_text, placed, further, arguments_text, text_by, enclosed, tail_text_by, text_at}
+use Rattle.cp_write.specs.Writing.{prefix_shape, infix_shape, functor_shape, atom_shape, shape_of, priority_in, is_parenthesized_operand, would_take, first_term, tail_by, tail_text, placed, further, text_by, enclosed, tail_text_by, text_at}
 
 -- what a term's text is, wherever it stands, by a shape
 pub record IsShaped (style : Style) (c : Cell) (s : Shape) (ts : List Written) (t : Written) : Type 0 where

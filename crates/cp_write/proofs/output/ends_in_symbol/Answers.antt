@@ -1,4 +1,4 @@
-use Rattle.std.proofs.Common.{◌∙◌, ap, sym}
+use Rattle.std.proofs.Common.{◌∙◌, ap}
 use Rattle.cp_char.specs.Characters.{is_symbol}
 use Rattle.cp_write.proofs.lemmas.NameLaws.{last-some}
 use Rattle.cp_write.proofs.output.ends_in_symbol.Goals as goal

@@ -1,4 +1,4 @@
-use Rattle.std.proofs.Common.{◌∙◌, ◌∷◌, [], ap, sym, refl}
+use Rattle.std.proofs.Common.{◌∙◌, ◌∷◌, [], ap, refl}
 use Rattle.std.specs.Prelude.{decimal}
 use Rattle.cp_ops.specs.Text.{beside}
 use Rattle.cp_write.proofs.lemmas.BesideLaws.{beside-assoc, beside-after}

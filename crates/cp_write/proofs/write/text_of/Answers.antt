@@ -2,7 +2,7 @@ use Rattle.std.proofs.Common.{◌≡◌, ◌≢◌, ◌≤◌, ◌+◌, true, []
 use Rattle.std.proofs.lemmas.List.{drop_more, drop_all}
 use Rattle.cp_term.specs.Preorder.{is_terms, arity_of}
 use Rattle.cp_ops.specs.Text.{written, text_of}
-use Rattle.cp_write.specs.declared.place.Place.TheVariants.{Nothing, Whole}
+use Rattle.cp_write.specs.declared.place.Place.TheVariants.{Nothing}
 use Rattle.cp_write.specs.Writing.{style_of, finished, awaited, text_at, shape_of, Continues}
 use Rattle.cp_write.proofs.lemmas.WriterLaws.{cell-arity, step-same, step-count, enough-terms, place-left, all-written}
 use Rattle.cp_write.proofs.write.text_of.Goals as goal

@@ -1,7 +1,7 @@
 use Rattle.std.proofs.Common.{◌≡◌, List, length}
 use Rattle.std.specs.Prelude.{sum_by}
 use Rattle.cp_ops.specs.Text.{Written}
-use Rattle.cp_write.specs.Writing.{style_of, resumed, awaited_by, Going}
+use Rattle.cp_write.specs.Writing.{style_of, resumed, awaited_by}
 use Rattle.cp_write.proofs.writer.Writer.settle.Given as goal
 
 -- what is said of the terms to come stays the same
