@@ -4,6 +4,7 @@
 
 mod operators;
 mod pieces;
+mod tokens;
 mod unify;
 mod words;
 mod work;
