@@ -5,4 +5,5 @@ pub mod Code
 pub mod Goals
 pub mod Requests
 pub mod Tree
+pub mod Instrument
 pub mod Laws

@@ -1,8 +1,14 @@
 // Laws of the definition of resolution, for the crates above.
-ghost use Rattle.cp_code.specs.Laws.{TreeIsRow};
+ghost use Rattle.cp_code.specs.Laws.{TreeIsRow, InstrumentedAsks};
 
 /// The tree of a list of goals is what the table says of its first goal, with the trees of the other lists of goals: the
 /// depth to which the definition goes down is never met.
 pub fn a_tree_is_its_row()
     ensures { TreeIsRow }
+{}
+
+/// A program whose checked predicates are made their tests and the call of the predicate as it was asks just what the program
+/// with its assertions asks, on every list of inputs.
+pub fn instrumenting_keeps_what_is_asked()
+    ensures { InstrumentedAsks }
 {}
