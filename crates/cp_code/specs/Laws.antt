@@ -1,9 +1,10 @@
 -- What holds of trees.
-use Rattle.std.specs.Prelude.{◌≡◌, ℕ, List}
+use Rattle.std.specs.Prelude.{◌≡◌, ◌<◌, Bool, IsTrue, ℕ, List}
 use Rattle.cp_term.specs.declared.cell.Cell.{Cell}
 use Rattle.cp_term.specs.Substitution.{Substitution}
 use Rattle.cp_code.specs.Code.{Code}
 use Rattle.cp_call.specs.declared.item.Input.{Input}
+use Rattle.cp_code.specs.Ends.{Named, Ended}
 use Rattle.cp_code.specs.Instrument.{instrument, ArePlain}
 use Rattle.cp_code.specs.Tree.{asks, Item, Left, tree, whole_row}
 
@@ -14,3 +15,9 @@ TreeIsRow = (code : Code) (goal : List Cell) (items : List Item) (s : Substituti
 -- an instrumented program asks what the program with its assertions asks
 abbrev pub InstrumentedAsks : Type 0
 InstrumentedAsks = (code : Code) → ArePlain code.preds → (goal : List Cell) (inputs : List Input) → asks code goal inputs ≡ asks (instrument code) goal inputs
+
+-- A tree ends by a cut or a throw only to levels and catchers that its goals name, or that it opened itself: whatever passes
+-- for all levels above the last one and for all that the goals name passes for all that the end names.
+abbrev pub EndsAreNamed : Type 0
+EndsAreNamed = (passes : ℕ → Bool) (code : Code) (goal : List Cell) (items : List Item) (s : Substitution) (next level : ℕ) (left : Left)
+    → ((j : ℕ) → level < j → IsTrue (passes j)) → Named (λ j. IsTrue (passes j)) items → Ended (λ j. IsTrue (passes j)) (tree code goal items s next level left)

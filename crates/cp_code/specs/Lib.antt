@@ -6,4 +6,5 @@ pub mod Goals
 pub mod Requests
 pub mod Tree
 pub mod Instrument
+pub mod Ends
 pub mod Laws

@@ -1,5 +1,5 @@
 // Laws of the definition of resolution, for the crates above.
-ghost use Rattle.cp_code.specs.Laws.{TreeIsRow, InstrumentedAsks};
+ghost use Rattle.cp_code.specs.Laws.{TreeIsRow, InstrumentedAsks, EndsAreNamed};
 
 /// The tree of a list of goals is what the table says of its first goal, with the trees of the other lists of goals: the
 /// depth to which the definition goes down is never met.
@@ -11,4 +11,9 @@ pub fn a_tree_is_its_row()
 /// with its assertions asks, on every list of inputs.
 pub fn instrumenting_keeps_what_is_asked()
     ensures { InstrumentedAsks }
+{}
+
+/// A tree ends by a cut or a throw only to levels and catchers that its goals name, or that it opened itself.
+pub fn ends_are_named()
+    ensures { EndsAreNamed }
 {}

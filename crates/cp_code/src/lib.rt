@@ -3,4 +3,4 @@
 
 mod laws;
 
-pub use laws::{a_tree_is_its_row, instrumenting_keeps_what_is_asked};
+pub use laws::{a_tree_is_its_row, ends_are_named, instrumenting_keeps_what_is_asked};
