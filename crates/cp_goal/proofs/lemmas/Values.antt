@@ -34,7 +34,7 @@ value-unary f a h = ap (λ vs. value_of (Func f 1) (take 1 vs)) (values_of_one a
 pub value-binary : (f : List ℕ) (a b : List Cell) → is_terms 1 a ≡ true → is_terms 1 b ≡ true → value (Func f 2 ∷ a ++ b) ≡ binary_of (binary_named f) f (value a) (value b)
 value-binary f a b ha hb =
     ap (λ vs. value_of (Func f 2) (take 2 vs))
-      (of_terms-append value_of 1 a b ha ∙ ap (λ vs. vs ++ of_terms value_of b) (values_of_one a ha) ∙ ap (λ vs. value a ∷ vs) (values_of_one b hb))
+    (of_terms-append value_of 1 a b ha ∙ ap (λ vs. vs ++ of_terms value_of b) (values_of_one a ha) ∙ ap (λ vs. value a ∷ vs) (values_of_one b hb))
 
 -- a compound of one argument
 pub record IsUnary (cells a : List Cell) (f : List ℕ) : Type 0 where
