@@ -29,7 +29,7 @@ use Rattle.cp_code.specs.Code.{Kind, Rules, Shared, Remote, Wrapped}
 use Rattle.cp_code.specs.Instrument.{wrapped, wrapped_kind, wrapped_from, instrument, IsPlainKind, ArePlain, HasNoTests}
 use Rattle.cp_code.proofs.Alike.{size, Within, within_end, cuts, one_end, copied_size, answer_same, exit_same, demand_same, IsKept, AreAlike, rules_same, ask_same, remote_same, plain_same, body_same, again_same}
 
-kept : IsKept HasNoTests
+pub kept : IsKept HasNoTests
 kept = record {
   goal = λ b l rest ok. ok;
   ask = λ a place rest ok. ok;
@@ -76,7 +76,7 @@ functor_asks code f fact None ctx = refl
 functor_asks code f fact (Some g) ctx = number_asks code f fact g (code.sees fact.seer g.0 g.1) ctx
 
 -- where no test stands first, the trees of renamed predicates are not asked for
-no_tests_inside : (A I J : Tree) (code : Code) (goal : List Cell) (items : List Item) → HasNoTests items → (s : Substitution) (next level : ℕ) (left : Left) → row A I code goal items s next level left ≡ row A J code goal items s next level left
+pub no_tests_inside : (A I J : Tree) (code : Code) (goal : List Cell) (items : List Item) → HasNoTests items → (s : Substitution) (next level : ℕ) (left : Left) → row A I code goal items s next level left ≡ row A J code goal items s next level left
 no_tests_inside A I J code goal [] ok s next level left = refl
 no_tests_inside A I J code goal (Goal b l ∷ rest) ok s next level left = refl
 no_tests_inside A I J code goal (AskFrom a place ∷ rest) ok s next level left = refl
