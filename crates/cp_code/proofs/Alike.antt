@@ -305,7 +305,7 @@ module _ (Q : List Item → Type 0) (keep : IsKept Q) (A B : Tree) (m : ℕ) (hy
     (types : c.types ≡ c'.types) (ops : c.ops ≡ c'.ops)
     (asks_alike : (f : FactGoal) (fact : Seen) (ctx : List Cell) → fact_asking c f fact ctx ≡ fact_asking c' f fact ctx)
     (call : (seer f : List ℕ) (k : ℕ) (g ctx : List Cell) (rest : List Item) (ok : Q rest) (s : Substitution) (next level : ℕ) (left : Left) → size left < m
-      → Within (size left) (called_row A c seer (seen_pred c seer f k) g ctx rest s next level left) (called_row B c' seer (seen_pred c' seer f k) g ctx rest s next level left)) where
+    → Within (size left) (called_row A c seer (seen_pred c seer f k) g ctx rest s next level left) (called_row B c' seer (seen_pred c' seer f k) g ctx rest s next level left)) where
   pub builtin_same : (seer : List ℕ) (b : Builtin) (args : List (List Cell)) (ctx : List Cell) (rest : List Item) (ok : Q rest) (s : Substitution) (next level : ℕ) (left : Left) → size left < m
       → Within (size left) (builtin_row A c seer b args ctx rest s next level left) (builtin_row B c' seer b args ctx rest s next level left)
   builtin_same seer (OnTerms b) args ctx rest ok s next level left lt = ended_same Q keep A B m hyp (builtin b args s next) ctx rest ok level left lt

@@ -11,7 +11,6 @@ use Rattle.cp_code.specs.Code.{Code, Pred, Kind, Rules, Shared, Remote, Wrapped}
 use Rattle.cp_code.specs.Goals.{seen_pred}
 use Rattle.cp_code.specs.Requests.{handed_out, full_name, pred_asking}
 use Rattle.cp_code.specs.Tree.{Item, Goal, AskFrom, CutNow, Leave, Copy, Exit, Demands, Renamed, Done, Left, Tree, qualified, call_kind, called_row, body_row, without_module, row, nothing, whole_row, tree_to, tree}
-
 use Rattle.cp_code.proofs.Alike.{size, left_of, Within, within_end, cuts, one_end, copied_size, answer_same, exit_same, demand_same, IsKept, AreAlike, rules_same, renamed_same, ask_same, remote_same, plain_same, body_same, again_same}
 
 -- all lists of goals
@@ -47,7 +46,7 @@ module _ (A B : Tree) (m : ℕ) (hyp : (items : List Item) (s : Substitution) (n
   bodies_same code b l rest s next level left le =
       body_same Any any_kept A B m alike code code
       (λ seer g r ok t n v k lt. plain_same Any any_kept A B m alike code code refl refl (λ f fact ctx. refl)
-        (λ seer f k g ctx r ok t n v o lt. call_same code seer (seen_pred code seer f k) g ctx r t n v o lt) seer g r ok t n v k lt)
+      (λ seer f k g ctx r ok t n v o lt. call_same code seer (seen_pred code seer f k) g ctx r t n v o lt) seer g r ok t n v k lt)
       b l rest tt s next level left le
 
 -- two pairs of trees: those for what was charged, and those for the clauses of renamed predicates
@@ -58,7 +57,7 @@ module _ (A B I J : Tree) (m : ℕ)
   row_same code goal [] s next level left le = answer_same code goal (handed_out (apply s (without_module goal (arguments goal)))) left
   row_same code goal (Goal b l ∷ rest) s next level left le = bodies_same A B m hyp code b l rest s next level left le
   row_same code goal (AskFrom a place ∷ rest) s next level left le = again_same Any any_kept A B m (alike A B m hyp) code code (λ seer g r ok t n v k lt. plain_same Any any_kept A B m (alike A B m hyp) code code refl refl (λ f fact ctx. refl)
-        (λ seer f k g ctx r ok t n v o lt. call_same A B m hyp code seer (seen_pred code seer f k) g ctx r t n v o lt) seer g r ok t n v k lt) a place rest tt s next level left le
+      (λ seer f k g ctx r ok t n v o lt. call_same A B m hyp code seer (seen_pred code seer f k) g ctx r t n v o lt) seer g r ok t n v k lt) a place rest tt s next level left le
   row_same code goal (CutNow l ∷ rest) s next level left le = cuts (size left) l _ _ (row_same code goal rest s next level left le)
   row_same code goal (Leave k ∷ rest) s next level left le = row_same code goal rest s next level left le
   row_same code goal (Exit p cs g ∷ rest) s next level left le = exit_same (broken_exit code.types cs (arguments (apply s g))) p rest left _ _ (row_same code goal rest s next level left le)

@@ -17,7 +17,6 @@ use Rattle.cp_code.specs.Goals.{FactGoal, seen_pred}
 use Rattle.cp_code.specs.Requests.{handed_out, functor_of, full_name, is_unbound}
 use Rattle.cp_code.specs.Tree as trees
 use Rattle.cp_code.specs.Tree.{Item, Goal, AskFrom, CutNow, Leave, Copy, Exit, Demands, Renamed, End, Done, CutTo, Throw, Steps, Waiting, Left, Run, Ends, Tree, in_turn, cut_at, opened, cut_behind, charge_of, charge, read_of, read, with_copies, throw_copy, throw_if, extended, enter_body, enter_goal, enter_seen, enter, rest_if, clause_if, clauses, behind, demand_if, exit_if, call_rules, rules_of_kind, call_renamed, facts_if, fact_if, followed, asked, ask, ask_or_raise, wrote, write, behind_answers, each_answer, answered, call_remote, is_among, recover_if, caught, apart, variables_in, collected, copied, ended, qualified, call_kind, first_of, piece_of, builtin_row, called_row, named_row, functor_row, plain_row, body_row, answer, without_module, row, nothing, whole_row, tree_to, tree}
-
 use Rattle.std.proofs.Common.{sym}
 use Rattle.std.specs.Prelude.{slice_get}
 use Rattle.cp_code.specs.Checks.{broken_exit}
@@ -29,7 +28,7 @@ use Rattle.cp_code.specs.Code.{Kind, Rules, Shared, Remote, Wrapped}
 use Rattle.cp_code.specs.Instrument.{wrapped, wrapped_kind, wrapped_from, instrument, IsPlainKind, ArePlain, HasNoTests}
 use Rattle.cp_code.proofs.Alike.{size, Within, within_end, cuts, one_end, copied_size, answer_same, exit_same, demand_same, IsKept, AreAlike, rules_same, ask_same, remote_same, plain_same, body_same, again_same}
 
-kept : IsKept HasNoTests
+pub kept : IsKept HasNoTests
 kept = record {
   goal = λ b l rest ok. ok;
   ask = λ a place rest ok. ok;
@@ -76,7 +75,7 @@ functor_asks code f fact None ctx = refl
 functor_asks code f fact (Some g) ctx = number_asks code f fact g (code.sees fact.seer g.0 g.1) ctx
 
 -- where no test stands first, the trees of renamed predicates are not asked for
-no_tests_inside : (A I J : Tree) (code : Code) (goal : List Cell) (items : List Item) → HasNoTests items → (s : Substitution) (next level : ℕ) (left : Left) → row A I code goal items s next level left ≡ row A J code goal items s next level left
+pub no_tests_inside : (A I J : Tree) (code : Code) (goal : List Cell) (items : List Item) → HasNoTests items → (s : Substitution) (next level : ℕ) (left : Left) → row A I code goal items s next level left ≡ row A J code goal items s next level left
 no_tests_inside A I J code goal [] ok s next level left = refl
 no_tests_inside A I J code goal (Goal b l ∷ rest) ok s next level left = refl
 no_tests_inside A I J code goal (AskFrom a place ∷ rest) ok s next level left = refl
@@ -95,7 +94,7 @@ demands None name p cs g rest left r r' w = w
 -- two trees, of a program and of the instrumented one, that are the same wherever less than m is left
 module _ (code : Code) (A B : Tree) (m : ℕ) (hyp : AreAlike HasNoTests m A B)
     (call : (seer f : List ℕ) (k : ℕ) (g ctx : List Cell) (rest : List Item) (ok : HasNoTests rest) (s : Substitution) (next level : ℕ) (left : Left) → size left < m
-      → Within (size left) (called_row A code seer (seen_pred code seer f k) g ctx rest s next level left) (called_row B (instrument code) seer (seen_pred (instrument code) seer f k) g ctx rest s next level left)) where
+    → Within (size left) (called_row A code seer (seen_pred code seer f k) g ctx rest s next level left) (called_row B (instrument code) seer (seen_pred (instrument code) seer f k) g ctx rest s next level left)) where
   plain : (seer : List ℕ) (g : List Cell) (rest : List Item) (ok : HasNoTests rest) (s : Substitution) (next level : ℕ) (left : Left) → size left < m → Within (size left) (plain_row A code seer g rest s next level left) (plain_row B (instrument code) seer g rest s next level left)
   plain seer g rest ok s next level left lt =
       plain_same HasNoTests kept A B m hyp code (instrument code) refl refl (λ f fact ctx. functor_asks code f fact (functor_of fact.goal) ctx) call seer g rest ok s next level left lt

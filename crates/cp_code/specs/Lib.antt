@@ -7,4 +7,6 @@ pub mod Requests
 pub mod Tree
 pub mod Instrument
 pub mod Ends
+pub mod Machine
+pub mod Valid
 pub mod Laws

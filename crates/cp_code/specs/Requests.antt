@@ -200,9 +200,9 @@ create_kind t = if is_unbound t then instantiation_error else domain_error (code
 abbrev pub post_checked : List ℕ → (goal engine thread id : List Cell) → List Cell → Result Asking Refused
 post_checked m goal engine thread id ctx =
     if is_create engine then
-      (if is_create thread then
-        (if is_unbound id then post_asking id ctx (handed_out (posted m goal)) else Err (type_error (codes "variable") id))
-      else Err (create_kind thread))
+    (if is_create thread then
+    (if is_unbound id then post_asking id ctx (handed_out (posted m goal)) else Err (type_error (codes "variable") id))
+    else Err (create_kind thread))
     else Err (create_kind engine)
 
 abbrev pub post_of_body : Option Body → Seen → List ℕ → (goal engine thread id : List Cell) → List Cell → Result Asking Refused

@@ -528,4 +528,4 @@ next_of (Ends (Waiting n) left) = n
 abbrev pub asks : Code → List Cell → List Input → Next
 asks code goal inputs =
     next_of (enter (tree code goal) code.first goal [] (context code.first (codes "call") 1) [] [] (next_variable goal) 0
-      (record { units = code.budget; inputs = inputs; copies = [] }))
+    (record { units = code.budget; inputs = inputs; copies = [] }))
