@@ -24,6 +24,8 @@ use Rattle.cp_code.specs.Checks.{Check, OfCalls, OfSuccess, broken_call, held, b
 use Rattle.cp_code.specs.Code.{Code, Clause, Pred, Kind, Rules, Shared}
 use Rattle.cp_code.specs.Goals.{builtin_goal}
 use Rattle.cp_code.specs.Tree.{tree, asks}
+use Rattle.cp_code.specs.Machine.{first_state}
+use Rattle.cp_code.specs.Walk.{walk}
 
 -- ---- terms
 
@@ -95,9 +97,13 @@ program budget preds = record {
   budget = budget;
 }
 
--- what `main` with this body does next, after these inputs, with other predicates beside it
+-- a predicate `main` with this body, and others beside it
+abbrev main_and : (budget : ℕ) → List Pred → List Cell → Code
+main_and budget others body = program budget (pred "main" 0 (Rules [] (rule 9 (a "main") body ∷ [])) ∷ others)
+
+-- what `main` does next, after these inputs
 abbrev run : (budget : ℕ) → List Pred → List Cell → List Input → Next
-run budget others body inputs = asks (program budget (pred "main" 0 (Rules [] (rule 9 (a "main") body ∷ [])) ∷ others)) (a "main") inputs
+run budget others body inputs = asks (main_and budget others body) (a "main") inputs
 
 abbrev found : Next
 found = request.Answer (a "main")
@@ -253,3 +259,25 @@ each_exit_is_tested = refl
 tests_cost_nothing : run 3 (checked demanding ∷ []) (f1 "p" (n 1)) [] ≡ found
 unfolding body_of fresh_body seen_from builtin_goal tree holds broken_call held broken_exit
 tests_cost_nothing = refl
+
+-- ---- the machine
+
+-- what the machine asks of the same program, where so many moves and inputs reach so far
+abbrev machine : (steps budget : ℕ) → List Pred → List Cell → List Input → Option Next
+machine steps budget others body inputs = walk (main_and budget others body) (a "main") steps (first_state (main_and budget others body) (a "main")) inputs
+
+the_machine_gathers_solutions : machine 60 20 [] (also (f3 "findall" (v 0) (f2 ";" (f2 "=" (v 0) (n 1)) (f2 "=" (v 0) (n 2))) (v 1)) (f2 "=" (v 1) (list_term (n 1 ∷ n 2 ∷ [])))) [] ≡ Some found
+unfolding body_of fresh_body seen_from builtin_goal holds broken_call held broken_exit
+the_machine_gathers_solutions = refl
+
+the_machine_asks_behind_the_fact : machine 60 20 (shared ∷ []) (also (f1 "q" (v 0)) (f2 "=" (v 0) (n 2))) (input.Reply (reply.Found (pos 1) (f1 "q" (n 1))) ∷ []) ≡ Some (request.Ask 2 (call.Next (f1 "q" (v 0)) (Some (pos 1))))
+unfolding body_of fresh_body seen_from builtin_goal holds broken_call held broken_exit
+the_machine_asks_behind_the_fact = refl
+
+a_cut_drops_the_frames : machine 60 20 (cuts ∷ []) (a "t") [] ≡ Some no
+unfolding body_of fresh_body seen_from builtin_goal holds broken_call held broken_exit
+a_cut_drops_the_frames = refl
+
+three_moves_tell_nothing : machine 3 20 (cuts ∷ []) (a "t") [] ≡ None
+unfolding body_of fresh_body seen_from builtin_goal holds broken_call held broken_exit
+three_moves_tell_nothing = refl

@@ -1,11 +1,14 @@
 -- What holds of trees.
-use Rattle.std.specs.Prelude.{◌≡◌, ◌<◌, Bool, IsTrue, ℕ, List}
+use Rattle.std.specs.Prelude.{◌≡◌, ◌<◌, Bool, IsTrue, ℕ, List, Some}
 use Rattle.cp_term.specs.declared.cell.Cell.{Cell}
 use Rattle.cp_term.specs.Substitution.{Substitution}
 use Rattle.cp_code.specs.Code.{Code}
 use Rattle.cp_call.specs.declared.item.Input.{Input}
 use Rattle.cp_code.specs.Ends.{Named, Ended}
 use Rattle.cp_code.specs.Instrument.{instrument, ArePlain}
+use Rattle.cp_call.specs.declared.item.Next.{Next}
+use Rattle.cp_code.specs.Machine.{first_state}
+use Rattle.cp_code.specs.Walk.{walk}
 use Rattle.cp_code.specs.Tree.{asks, Item, Left, tree, whole_row}
 
 -- a tree is what its first goal's row says of the trees of the other lists of goals; its bound is never met
@@ -21,3 +24,7 @@ InstrumentedAsks = (code : Code) → ArePlain code.preds → (goal : List Cell) 
 abbrev pub EndsAreNamed : Type 0
 EndsAreNamed = (passes : ℕ → Bool) (code : Code) (goal : List Cell) (items : List Item) (s : Substitution) (next level : ℕ) (left : Left)
     → ((j : ℕ) → level < j → IsTrue (passes j)) → Named (λ j. IsTrue (passes j)) items → Ended (λ j. IsTrue (passes j)) (tree code goal items s next level left)
+
+-- What the machine is ready to ask, once it has taken all inputs, is what the goal's tree asks on them.
+abbrev pub MachineAsksAsTheTree : Type 0
+MachineAsksAsTheTree = (code : Code) (goal : List Cell) (inputs : List Input) (steps : ℕ) (n : Next) → walk code goal steps (first_state code goal) inputs ≡ Some n → asks code goal inputs ≡ n

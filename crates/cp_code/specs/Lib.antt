@@ -9,4 +9,5 @@ pub mod Instrument
 pub mod Ends
 pub mod Machine
 pub mod Valid
+pub mod Walk
 pub mod Laws
