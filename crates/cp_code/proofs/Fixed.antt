@@ -74,7 +74,7 @@ module _ (A B : Tree) (m : ℕ) (hyp : (items : List Item) (s : Substitution) (n
       code goal items s next level left le
 
 -- a bound above what is left is as good as any other
-deep : (m n n' : ℕ) → m ≤ n → m ≤ n' → (code : Code) (goal : List Cell) (items : List Item) (s : Substitution) (next level : ℕ) (left : Left) → size left < m → Within (size left) (tree_to n code goal items s next level left) (tree_to n' code goal items s next level left)
+pub deep : (m n n' : ℕ) → m ≤ n → m ≤ n' → (code : Code) (goal : List Cell) (items : List Item) (s : Substitution) (next level : ℕ) (left : Left) → size left < m → Within (size left) (tree_to n code goal items s next level left) (tree_to n' code goal items s next level left)
 deep zero n n' a b code goal items s next level left lt = absurd (omega arith)
 deep (suc m) zero n' a b code goal items s next level left lt = absurd (omega arith)
 deep (suc m) (suc n) zero a b code goal items s next level left lt = absurd (omega arith)

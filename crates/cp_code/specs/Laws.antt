@@ -5,6 +5,7 @@ use Rattle.cp_term.specs.Substitution.{Substitution}
 use Rattle.cp_code.specs.Code.{Code}
 use Rattle.cp_call.specs.declared.item.Input.{Input}
 use Rattle.cp_code.specs.Ends.{Named, Ended}
+use Rattle.cp_code.specs.Units.{with_more, More}
 use Rattle.cp_code.specs.Instrument.{instrument, ArePlain}
 use Rattle.cp_call.specs.declared.item.Next.{Next}
 use Rattle.cp_code.specs.Machine.{first_state}
@@ -28,3 +29,8 @@ EndsAreNamed = (passes : ℕ → Bool) (code : Code) (goal : List Cell) (items :
 -- What the machine is ready to ask, once it has taken all inputs, is what the goal's tree asks on them.
 abbrev pub MachineAsksAsTheTree : Type 0
 MachineAsksAsTheTree = (code : Code) (goal : List Cell) (inputs : List Input) (steps : ℕ) (n : Next) → walk code goal steps (first_state code goal) inputs ≡ Some n → asks code goal inputs ≡ n
+
+-- a tree that does not end for want of units is the same with more of them, which are left over
+abbrev pub MoreUnitsChangeNothing : Type 0
+MoreUnitsChangeNothing = (code : Code) (goal : List Cell) (items : List Item) (s : Substitution) (next level : ℕ) (left : Left) (more : ℕ)
+    → More more (tree code goal items s next level left) (tree code goal items s next level (with_more more left))

@@ -7,6 +7,7 @@ pub mod Requests
 pub mod Tree
 pub mod Instrument
 pub mod Ends
+pub mod Units
 pub mod Machine
 pub mod Valid
 pub mod Walk

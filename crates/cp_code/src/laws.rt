@@ -1,5 +1,5 @@
 // Laws of the definition of resolution, for the crates above.
-ghost use Rattle.cp_code.specs.Laws.{TreeIsRow, InstrumentedAsks, EndsAreNamed, MachineAsksAsTheTree};
+ghost use Rattle.cp_code.specs.Laws.{TreeIsRow, InstrumentedAsks, EndsAreNamed, MachineAsksAsTheTree, MoreUnitsChangeNothing};
 
 /// The tree of a list of goals is what the table says of its first goal, with the trees of the other lists of goals: the
 /// depth to which the definition goes down is never met.
@@ -22,4 +22,9 @@ pub fn ends_are_named()
 /// goal's tree asks on them. The law says nothing of a machine that has not come so far.
 pub fn the_machine_asks_as_the_tree()
     ensures { MachineAsksAsTheTree }
+{}
+
+/// A tree that does not end for want of units is the same with more of them, which are left over.
+pub fn more_units_change_nothing()
+    ensures { MoreUnitsChangeNothing }
 {}
