@@ -1,6 +1,6 @@
 -- What goals do, on worked examples: bodies and modules, control, exceptions, solutions gathered, requests and their
 -- replies, assertions, and the units of each.
-use Rattle.std.proofs.Common.{◌≡◌, refl, true, ℕ, suc, ◌&&◌, List, [], ◌∷◌, ◌++◌, pos, negsuc}
+use Rattle.std.proofs.Common.{◌≡◌, refl, true, false, ℕ, suc, ◌&&◌, List, [], ◌∷◌, ◌++◌, pos, negsuc}
 use Rattle.std.specs.Prelude.{codes, Option, Some, None, cond, nat_eq}
 use Rattle.std.specs.Str.{bytes_eq}
 use Prim.Native.String.{String}
@@ -15,6 +15,9 @@ use Rattle.cp_call.specs.declared.call.Reply.TheVariants as reply
 use Rattle.cp_call.specs.declared.call.FullBy.TheVariants as full
 use Rattle.cp_call.specs.declared.item.PutReply.TheVariants as put
 use Rattle.cp_call.specs.declared.item.How.TheVariants as how
+use Rattle.cp_call.specs.declared.item.RemoteEnd.{RemoteEnd}
+use Rattle.cp_call.specs.declared.item.RemoteEnd.TheVariants as ended
+use Rattle.cp_call.specs.declared.item.RemoteReply.TheVariants as replied
 use Rattle.cp_call.specs.declared.item.Next.{Next}
 use Rattle.cp_call.specs.declared.item.Next.TheVariants as request
 use Rattle.cp_call.specs.declared.item.Input.{Input}
@@ -22,7 +25,7 @@ use Rattle.cp_call.specs.declared.item.Input.TheVariants as input
 use Rattle.cp_code.specs.Bodies.{Body, Cut, True, Fail, Both, Choose, CallOf, Plain, body_of, fresh_body, seen_from}
 use Rattle.cp_code.specs.Properties.{Of, Always, holds}
 use Rattle.cp_code.specs.Checks.{Check, OfCalls, OfSuccess, broken_call, held, broken_exit}
-use Rattle.cp_code.specs.Code.{Code, Clause, Pred, Kind, Rules, Shared}
+use Rattle.cp_code.specs.Code.{Code, Clause, Pred, Kind, Rules, Shared, Remote}
 use Rattle.cp_code.specs.Goals.{builtin_goal}
 use Rattle.cp_code.specs.Tree.{tree, asks}
 use Rattle.cp_code.specs.Machine.{first_state}
@@ -357,6 +360,73 @@ no_fact_of_a_closed_predicate_is_taken = refl
 too_many_goals : run 20 [] (Func (codes "eng_call") 4 ∷ a "g" ++ a "create" ++ a "create" ++ v 0) (input.Reply (reply.Full full.Posts 0) ∷ []) ≡ raised (resource_error (codes "goals")) (context m (codes "eng_call") 4)
 unfolding body_of fresh_body seen_from builtin_goal tree holds broken_call held broken_exit
 too_many_goals = refl
+
+-- ---- goals of engines
+
+-- X = 7, eng_call(g, create, create, Id), Id == 3
+a_posted_goal_has_a_number : run 20 [] (also (f2 "=" (v 0) (n 7)) (also (Func (codes "eng_call") 4 ∷ a "g" ++ a "create" ++ a "create" ++ v 1) (f2 "==" (v 1) (n 3)))) (input.Reply (reply.Added (pos 3) []) ∷ []) ≡ found
+unfolding body_of fresh_body seen_from builtin_goal tree holds broken_call held broken_exit
+a_posted_goal_has_a_number = refl
+
+a_goal_waits_for_the_end : run 20 [] (f1 "eng_wait" (n 2)) [] ≡ request.Ask 1 (call.Next (f2 "ended" (n 2) (v 0)) None)
+unfolding body_of fresh_body seen_from builtin_goal tree holds broken_call held broken_exit
+a_goal_waits_for_the_end = refl
+
+a_goal_that_has_ended_is_waited_for_once : run 20 [] (also (f1 "eng_wait" (n 2)) (a "fail")) (input.Reply (reply.Found (pos 1) (f2 "ended" (n 2) (a "true"))) ∷ []) ≡ no
+unfolding body_of fresh_body seen_from builtin_goal tree holds broken_call held broken_exit
+a_goal_that_has_ended_is_waited_for_once = refl
+
+no_goal_has_the_number_0 : run 20 [] (f1 "eng_wait" (n 0)) [] ≡ raised (f2 "domain_error" (a "goal_id") (n 0)) (context m (codes "eng_wait") 1)
+unfolding body_of fresh_body seen_from builtin_goal tree holds broken_call held broken_exit
+no_goal_has_the_number_0 = refl
+
+-- ---- remote predicates
+
+abbrev remote : Pred
+remote = record { name = record { «module» = codes "s"; name = codes "p"; arity = 1 }; goals = []; kind = Remote }
+
+abbrev answers : List (List Cell) → RemoteEnd → Input
+answers ts end = input.Remote (replied.Answers (record { answers = ts; end = end }))
+
+a_remote_goal_is_handed_out : run 20 (remote ∷ []) (f1 "p" (v 3)) [] ≡ request.Remote (record { «module» = codes "s"; goal = f1 "p" (v 0); limit = 65535; looks = 10000 })
+unfolding body_of fresh_body seen_from builtin_goal tree holds broken_call held broken_exit
+a_remote_goal_is_handed_out = refl
+
+-- p(X), X == 2
+each_answer_is_tried : run 20 (remote ∷ []) (also (f1 "p" (v 3)) (f2 "==" (v 3) (n 2))) (answers (f1 "p" (n 1) ∷ f1 "p" (n 2) ∷ []) ended.Done ∷ []) ≡ found
+unfolding body_of fresh_body seen_from builtin_goal tree holds broken_call held broken_exit
+each_answer_is_tried = refl
+
+what_was_thrown_there_is_thrown_behind_the_answers : run 20 (remote ∷ []) (also (f1 "p" (v 3)) (f2 "==" (v 3) (n 2))) (answers (f1 "p" (n 1) ∷ []) (ended.Ball (a "b")) ∷ []) ≡ request.End (how.Ball (a "b"))
+unfolding body_of fresh_body seen_from builtin_goal tree holds broken_call held broken_exit
+what_was_thrown_there_is_thrown_behind_the_answers = refl
+
+no_link_raises : run 20 (remote ∷ []) (f1 "p" (v 0)) (input.Remote replied.LinkFault ∷ []) ≡ raised (f1 "system_error" (a "link")) (context (codes "s") (codes "p") 1)
+unfolding body_of fresh_body seen_from builtin_goal tree holds broken_call held broken_exit
+no_link_raises = refl
+
+-- ---- kinds of predicates
+
+a_data_predicate_is_not_closed : run 20 (pred "d" 1 (Shared 3 false) ∷ []) (f1 "close_predicate" (f1 "d" (v 0))) [] ≡ raised (f2 "domain_error" (a "concurrent") (context m (codes "d") 1)) (context m (codes "close_predicate") 1)
+unfolding body_of fresh_body seen_from builtin_goal tree holds broken_call held broken_exit
+a_data_predicate_is_not_closed = refl
+
+-- twice(G) :- call(G), call(G), in another module, and hi :- nl, which only the first module sees
+abbrev twice : Pred
+twice = record {
+  name = record { «module» = codes "b"; name = codes "twice"; arity = 1 };
+  goals = true ∷ [];
+  kind = Rules [] (record { head = f1 "twice" (v 0); body = body_or_fail (body_of (codes "b") (also (f1 "call" (v 0)) (f1 "call" (v 0)))); variables = 1 } ∷ []);
+}
+
+abbrev twice_hi : Code
+twice_hi = record (main_and 20 (twice ∷ pred "hi" 0 (Rules [] (rule 0 (a "hi") (a "nl") ∷ [])) ∷ []) (f1 "twice" (a "hi"))) {
+  sees = λ seer name arity. cond (bytes_eq seer m) (number_of (main_and 20 (twice ∷ pred "hi" 0 (Rules [] []) ∷ []) (a "true")).preds 0 name arity) None;
+}
+
+a_goal_argument_keeps_its_module : asks twice_hi (a "main") (input.Put put.Wrote ∷ []) ≡ request.Put (codes "\n")
+unfolding body_of fresh_body seen_from builtin_goal tree holds broken_call held broken_exit
+a_goal_argument_keeps_its_module = refl
 
 -- ---- assertions
 
