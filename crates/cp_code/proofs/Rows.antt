@@ -1,19 +1,23 @@
 -- What goals do, on worked examples: bodies and modules, control, exceptions, solutions gathered, requests and their
 -- replies, assertions, and the units of each.
-use Rattle.std.proofs.Common.{◌≡◌, refl, true, ℕ, suc, ◌&&◌, List, [], ◌∷◌, ◌++◌, pos}
+use Rattle.std.proofs.Common.{◌≡◌, refl, true, false, ℕ, suc, ◌&&◌, List, [], ◌∷◌, ◌++◌, pos, negsuc}
 use Rattle.std.specs.Prelude.{codes, Option, Some, None, cond, nat_eq}
 use Rattle.std.specs.Str.{bytes_eq}
 use Prim.Native.String.{String}
 use Rattle.cp_term.specs.declared.cell.Cell.{Cell}
 use Rattle.cp_term.specs.declared.cell.Cell.TheVariants.{Var, Int, Func}
-use Rattle.cp_goal.specs.Errors.{word, with_one, with_two, instantiation_error, type_error}
+use Rattle.cp_goal.specs.Errors.{word, with_one, with_two, instantiation_error, type_error, resource_error}
 use Rattle.cp_goal.specs.Builtins.{context, error_term}
 use Rattle.cp_goal.specs.Lists.{list_term}
 use Rattle.cp_ops.specs.Standard.{standard}
 use Rattle.cp_call.specs.declared.call.Call.TheVariants as call
 use Rattle.cp_call.specs.declared.call.Reply.TheVariants as reply
+use Rattle.cp_call.specs.declared.call.FullBy.TheVariants as full
 use Rattle.cp_call.specs.declared.item.PutReply.TheVariants as put
 use Rattle.cp_call.specs.declared.item.How.TheVariants as how
+use Rattle.cp_call.specs.declared.item.RemoteEnd.{RemoteEnd}
+use Rattle.cp_call.specs.declared.item.RemoteEnd.TheVariants as ended
+use Rattle.cp_call.specs.declared.item.RemoteReply.TheVariants as replied
 use Rattle.cp_call.specs.declared.item.Next.{Next}
 use Rattle.cp_call.specs.declared.item.Next.TheVariants as request
 use Rattle.cp_call.specs.declared.item.Input.{Input}
@@ -21,7 +25,7 @@ use Rattle.cp_call.specs.declared.item.Input.TheVariants as input
 use Rattle.cp_code.specs.Bodies.{Body, Cut, True, Fail, Both, Choose, CallOf, Plain, body_of, fresh_body, seen_from}
 use Rattle.cp_code.specs.Properties.{Of, Always, holds}
 use Rattle.cp_code.specs.Checks.{Check, OfCalls, OfSuccess, broken_call, held, broken_exit}
-use Rattle.cp_code.specs.Code.{Code, Clause, Pred, Kind, Rules, Shared}
+use Rattle.cp_code.specs.Code.{Code, Clause, Pred, Kind, Rules, Shared, Remote}
 use Rattle.cp_code.specs.Goals.{builtin_goal}
 use Rattle.cp_code.specs.Tree.{tree, asks}
 use Rattle.cp_code.specs.Machine.{first_state}
@@ -133,6 +137,54 @@ a_negation_costs_three : run 4 [] (f1 "\\+" (a "fail")) [] ≡ found
 unfolding body_of fresh_body seen_from builtin_goal tree holds broken_call held broken_exit
 a_negation_costs_three = refl
 
+a_call_costs_2 : run 3 [] (f1 "call" (a "true")) [] ≡ found
+unfolding body_of fresh_body seen_from builtin_goal tree holds broken_call held broken_exit
+a_call_costs_2 = refl
+
+less_than_a_call : run 2 [] (f1 "call" (a "true")) [] ≡ request.End how.Steps
+unfolding body_of fresh_body seen_from builtin_goal tree holds broken_call held broken_exit
+less_than_a_call = refl
+
+a_choice_costs_3 : run 4 [] (f2 ";" (f2 "->" (a "true") (a "true")) (a "fail")) [] ≡ found
+unfolding body_of fresh_body seen_from builtin_goal tree holds broken_call held broken_exit
+a_choice_costs_3 = refl
+
+less_than_a_choice : run 3 [] (f2 ";" (f2 "->" (a "true") (a "true")) (a "fail")) [] ≡ request.End how.Steps
+unfolding body_of fresh_body seen_from builtin_goal tree holds broken_call held broken_exit
+less_than_a_choice = refl
+
+another_side_costs_4 : run 5 [] (f2 ";" (f2 "->" (a "fail") (a "true")) (also (a "true") (a "true"))) [] ≡ found
+unfolding body_of fresh_body seen_from builtin_goal tree holds broken_call held broken_exit
+another_side_costs_4 = refl
+
+less_than_another_side : run 4 [] (f2 ";" (f2 "->" (a "fail") (a "true")) (also (a "true") (a "true"))) [] ≡ request.End how.Steps
+unfolding body_of fresh_body seen_from builtin_goal tree holds broken_call held broken_exit
+less_than_another_side = refl
+
+a_recovery_costs_3 : run 4 [] (f3 "catch" (f1 "throw" (a "b")) (a "b") (a "true")) [] ≡ found
+unfolding body_of fresh_body seen_from builtin_goal tree holds broken_call held broken_exit
+a_recovery_costs_3 = refl
+
+less_than_a_recovery : run 3 [] (f3 "catch" (f1 "throw" (a "b")) (a "b") (a "true")) [] ≡ request.End how.Steps
+unfolding body_of fresh_body seen_from builtin_goal tree holds broken_call held broken_exit
+less_than_a_recovery = refl
+
+a_findall_costs_4 : run 5 [] (f3 "findall" (v 0) (f2 ";" (a "true") (a "true")) (v 1)) [] ≡ found
+unfolding body_of fresh_body seen_from builtin_goal tree holds broken_call held broken_exit
+a_findall_costs_4 = refl
+
+less_than_a_findall : run 4 [] (f3 "findall" (v 0) (f2 ";" (a "true") (a "true")) (v 1)) [] ≡ request.End how.Steps
+unfolding body_of fresh_body seen_from builtin_goal tree holds broken_call held broken_exit
+less_than_a_findall = refl
+
+a_cut_costs_2 : run 3 [] (also (a "true") (a "!")) [] ≡ found
+unfolding body_of fresh_body seen_from builtin_goal tree holds broken_call held broken_exit
+a_cut_costs_2 = refl
+
+less_than_a_cut : run 2 [] (also (a "true") (a "!")) [] ≡ request.End how.Steps
+unfolding body_of fresh_body seen_from builtin_goal tree holds broken_call held broken_exit
+less_than_a_cut = refl
+
 -- ---- cuts
 
 -- t :- !, fail. t.
@@ -156,6 +208,15 @@ a_cut_in_a_call_is_local : run 20 (pred "s" 0 (Rules [] (rule 0 (a "s") (also (f
 unfolding body_of fresh_body seen_from builtin_goal tree holds broken_call held broken_exit
 a_cut_in_a_call_is_local = refl
 
+-- s :- \+ (!, fail), fail. s.
+a_cut_in_a_negation_is_local : run 20 (pred "s" 0 (Rules [] (rule 1 (a "s") (also (f1 "\\+" (also (a "!") (a "fail"))) (a "fail")) ∷ rule 0 (a "s") (a "true") ∷ [])) ∷ []) (a "s") [] ≡ found
+unfolding body_of fresh_body seen_from builtin_goal tree holds broken_call held broken_exit
+a_cut_in_a_negation_is_local = refl
+
+a_cut_in_a_findall_is_local : run 20 (pred "s" 0 (Rules [] (rule 1 (a "s") (also (f3 "findall" (a "x") (a "!") (v 0)) (a "fail")) ∷ rule 0 (a "s") (a "true") ∷ [])) ∷ []) (a "s") [] ≡ found
+unfolding body_of fresh_body seen_from builtin_goal tree holds broken_call held broken_exit
+a_cut_in_a_findall_is_local = refl
+
 -- ---- catch and throw
 
 -- catch((X = 1, throw(f(X))), f(Y), Y = 1)
@@ -177,12 +238,45 @@ nothing_unbound_is_thrown : run 20 [] (f1 "throw" (v 0)) [] ≡ raised instantia
 unfolding body_of fresh_body seen_from builtin_goal tree holds broken_call held broken_exit
 nothing_unbound_is_thrown = refl
 
+-- catch(catch(throw(b), b, true), b, fail)
+the_inner_catch_catches : run 20 [] (f3 "catch" (f3 "catch" (f1 "throw" (a "b")) (a "b") (a "true")) (a "b") (a "fail")) [] ≡ found
+unfolding body_of fresh_body seen_from builtin_goal tree holds broken_call held broken_exit
+the_inner_catch_catches = refl
+
+no_catch_catches : run 20 [] (f3 "catch" (f3 "catch" (f1 "throw" (a "b")) (a "c") (a "true")) (a "d") (a "true")) [] ≡ request.End (how.Ball (a "b"))
+unfolding body_of fresh_body seen_from builtin_goal tree holds broken_call held broken_exit
+no_catch_catches = refl
+
+-- catch(catch(throw(b), X, throw(c(X))), c(Y), Y == b)
+a_recovery_throws_outside : run 20 [] (f3 "catch" (f3 "catch" (f1 "throw" (a "b")) (v 0) (f1 "throw" (f1 "c" (v 0)))) (f1 "c" (v 1)) (f2 "==" (v 1) (a "b"))) [] ≡ found
+unfolding body_of fresh_body seen_from builtin_goal tree holds broken_call held broken_exit
+a_recovery_throws_outside = refl
+
+a_recovery_is_not_caught_by_its_own_catch : run 20 [] (f3 "catch" (f1 "throw" (a "b")) (v 0) (f1 "throw" (v 0))) [] ≡ request.End (how.Ball (a "b"))
+unfolding body_of fresh_body seen_from builtin_goal tree holds broken_call held broken_exit
+a_recovery_is_not_caught_by_its_own_catch = refl
+
+-- catch((X = 1, throw(b)), b, true), X = 2
+a_catch_forgets_bindings : run 20 [] (also (f3 "catch" (also (f2 "=" (v 0) (n 1)) (f1 "throw" (a "b"))) (a "b") (a "true")) (f2 "=" (v 0) (n 2))) [] ≡ found
+unfolding body_of fresh_body seen_from builtin_goal tree holds broken_call held broken_exit
+a_catch_forgets_bindings = refl
+
 -- ---- findall
 
 -- findall(X, (X = 1 ; X = 2), L), L = [1, 2]
 solutions_are_gathered : run 20 [] (also (f3 "findall" (v 0) (f2 ";" (f2 "=" (v 0) (n 1)) (f2 "=" (v 0) (n 2))) (v 1)) (f2 "=" (v 1) (list_term (n 1 ∷ n 2 ∷ [])))) [] ≡ found
 unfolding body_of fresh_body seen_from builtin_goal tree holds broken_call held broken_exit
 solutions_are_gathered = refl
+
+-- findall(L, findall(X, (X = 1 ; X = 2), L), M), M == [[1, 2]]
+findall_in_findall : run 20 [] (also (f3 "findall" (v 1) (f3 "findall" (v 0) (f2 ";" (f2 "=" (v 0) (n 1)) (f2 "=" (v 0) (n 2))) (v 1)) (v 2)) (f2 "==" (v 2) (list_term (list_term (n 1 ∷ n 2 ∷ []) ∷ [])))) [] ≡ found
+unfolding body_of fresh_body seen_from builtin_goal tree holds broken_call held broken_exit
+findall_in_findall = refl
+
+-- findall(X, (true ; true), L), L = [1, 2], X = 3
+each_copy_has_variables_of_its_own : run 20 [] (also (f3 "findall" (v 0) (f2 ";" (a "true") (a "true")) (v 1)) (also (f2 "=" (v 1) (list_term (n 1 ∷ n 2 ∷ []))) (f2 "=" (v 0) (n 3)))) [] ≡ found
+unfolding body_of fresh_body seen_from builtin_goal tree holds broken_call held broken_exit
+each_copy_has_variables_of_its_own = refl
 
 -- ---- goals made at run time
 
@@ -199,6 +293,16 @@ arguments_are_added = refl
 an_unknown_goal_raises : run 20 [] (f1 "p" (v 0)) [] ≡ raised (with_two (codes "existence_error") (a "procedure") (context m (codes "p") 1)) (context m (codes "p") 1)
 unfolding body_of fresh_body seen_from builtin_goal tree holds broken_call held broken_exit
 an_unknown_goal_raises = refl
+
+-- X = f(X)
+no_term_is_in_itself : run 20 [] (f2 "=" (v 0) (f1 "f" (v 0))) [] ≡ no
+unfolding body_of fresh_body seen_from builtin_goal tree holds broken_call held broken_exit
+no_term_is_in_itself = refl
+
+-- X is - 1 - -2*3, X == 5
+minus_signs : run 20 [] (also (f2 "is" (v 0) (f2 "-" (f1 "-" (n 1)) (f2 "*" (Int (negsuc 1) ∷ []) (n 3)))) (f2 "==" (v 0) (n 5))) [] ≡ found
+unfolding body_of fresh_body seen_from builtin_goal tree holds broken_call held broken_exit
+minus_signs = refl
 
 -- ---- requests
 
@@ -234,6 +338,95 @@ a_goal_is_posted_with_its_module = refl
 a_failed_write_raises : run 20 [] (a "nl") (input.Put put.Failed ∷ []) ≡ raised (f1 "system_error" (a "output")) (context m (codes "nl") 0)
 unfolding body_of fresh_body seen_from builtin_goal tree holds broken_call held broken_exit
 a_failed_write_raises = refl
+
+a_goal_that_was_parked_twice_finds : run 2 (shared ∷ []) (f1 "q" (v 0)) (input.Reply reply.Parked ∷ input.Reply reply.Parked ∷ input.Reply (reply.Found (pos 1) (f1 "q" (n 1))) ∷ []) ≡ found
+unfolding body_of fresh_body seen_from builtin_goal tree holds broken_call held broken_exit
+a_goal_that_was_parked_twice_finds = refl
+
+-- retract_fact(q(_)), retract_fact(q(Y)), Y == 2
+another_retraction_asks_from_the_first_fact : run 20 (shared ∷ []) (also (f1 "retract_fact" (f1 "q" (v 0))) (also (f1 "retract_fact" (f1 "q" (v 1))) (f2 "==" (v 1) (n 2)))) (input.Reply (reply.Found (pos 1) (f1 "q" (n 1))) ∷ []) ≡ request.Ask 2 (call.Take (f1 "q" (v 0)) None)
+unfolding body_of fresh_body seen_from builtin_goal tree holds broken_call held broken_exit
+another_retraction_asks_from_the_first_fact = refl
+
+the_second_fact_is_found : run 20 (shared ∷ []) (also (f1 "retract_fact" (f1 "q" (v 0))) (also (f1 "retract_fact" (f1 "q" (v 1))) (f2 "==" (v 1) (n 2)))) (input.Reply (reply.Found (pos 1) (f1 "q" (n 1))) ∷ input.Reply (reply.Found (pos 2) (f1 "q" (n 2))) ∷ []) ≡ found
+unfolding body_of fresh_body seen_from builtin_goal tree holds broken_call held broken_exit
+the_second_fact_is_found = refl
+
+-- ( retract_fact(q(_)) -> fail ; true )
+no_fact_of_a_closed_predicate_is_taken : run 20 (shared ∷ []) (f2 ";" (f2 "->" (f1 "retract_fact" (f1 "q" (v 0))) (a "fail")) (a "true")) (input.Reply reply.NoMore ∷ []) ≡ found
+unfolding body_of fresh_body seen_from builtin_goal tree holds broken_call held broken_exit
+no_fact_of_a_closed_predicate_is_taken = refl
+
+too_many_goals : run 20 [] (Func (codes "eng_call") 4 ∷ a "g" ++ a "create" ++ a "create" ++ v 0) (input.Reply (reply.Full full.Posts 0) ∷ []) ≡ raised (resource_error (codes "goals")) (context m (codes "eng_call") 4)
+unfolding body_of fresh_body seen_from builtin_goal tree holds broken_call held broken_exit
+too_many_goals = refl
+
+-- ---- goals of engines
+
+-- X = 7, eng_call(g, create, create, Id), Id == 3
+a_posted_goal_has_a_number : run 20 [] (also (f2 "=" (v 0) (n 7)) (also (Func (codes "eng_call") 4 ∷ a "g" ++ a "create" ++ a "create" ++ v 1) (f2 "==" (v 1) (n 3)))) (input.Reply (reply.Added (pos 3) []) ∷ []) ≡ found
+unfolding body_of fresh_body seen_from builtin_goal tree holds broken_call held broken_exit
+a_posted_goal_has_a_number = refl
+
+a_goal_waits_for_the_end : run 20 [] (f1 "eng_wait" (n 2)) [] ≡ request.Ask 1 (call.Next (f2 "ended" (n 2) (v 0)) None)
+unfolding body_of fresh_body seen_from builtin_goal tree holds broken_call held broken_exit
+a_goal_waits_for_the_end = refl
+
+a_goal_that_has_ended_is_waited_for_once : run 20 [] (also (f1 "eng_wait" (n 2)) (a "fail")) (input.Reply (reply.Found (pos 1) (f2 "ended" (n 2) (a "true"))) ∷ []) ≡ no
+unfolding body_of fresh_body seen_from builtin_goal tree holds broken_call held broken_exit
+a_goal_that_has_ended_is_waited_for_once = refl
+
+no_goal_has_the_number_0 : run 20 [] (f1 "eng_wait" (n 0)) [] ≡ raised (f2 "domain_error" (a "goal_id") (n 0)) (context m (codes "eng_wait") 1)
+unfolding body_of fresh_body seen_from builtin_goal tree holds broken_call held broken_exit
+no_goal_has_the_number_0 = refl
+
+-- ---- remote predicates
+
+abbrev remote : Pred
+remote = record { name = record { «module» = codes "s"; name = codes "p"; arity = 1 }; goals = []; kind = Remote }
+
+abbrev answers : List (List Cell) → RemoteEnd → Input
+answers ts end = input.Remote (replied.Answers (record { answers = ts; end = end }))
+
+a_remote_goal_is_handed_out : run 20 (remote ∷ []) (f1 "p" (v 3)) [] ≡ request.Remote (record { «module» = codes "s"; goal = f1 "p" (v 0); limit = 65535; looks = 10000 })
+unfolding body_of fresh_body seen_from builtin_goal tree holds broken_call held broken_exit
+a_remote_goal_is_handed_out = refl
+
+-- p(X), X == 2
+each_answer_is_tried : run 20 (remote ∷ []) (also (f1 "p" (v 3)) (f2 "==" (v 3) (n 2))) (answers (f1 "p" (n 1) ∷ f1 "p" (n 2) ∷ []) ended.Done ∷ []) ≡ found
+unfolding body_of fresh_body seen_from builtin_goal tree holds broken_call held broken_exit
+each_answer_is_tried = refl
+
+what_was_thrown_there_is_thrown_behind_the_answers : run 20 (remote ∷ []) (also (f1 "p" (v 3)) (f2 "==" (v 3) (n 2))) (answers (f1 "p" (n 1) ∷ []) (ended.Ball (a "b")) ∷ []) ≡ request.End (how.Ball (a "b"))
+unfolding body_of fresh_body seen_from builtin_goal tree holds broken_call held broken_exit
+what_was_thrown_there_is_thrown_behind_the_answers = refl
+
+no_link_raises : run 20 (remote ∷ []) (f1 "p" (v 0)) (input.Remote replied.LinkFault ∷ []) ≡ raised (f1 "system_error" (a "link")) (context (codes "s") (codes "p") 1)
+unfolding body_of fresh_body seen_from builtin_goal tree holds broken_call held broken_exit
+no_link_raises = refl
+
+-- ---- kinds of predicates
+
+a_data_predicate_is_not_closed : run 20 (pred "d" 1 (Shared 3 false) ∷ []) (f1 "close_predicate" (f1 "d" (v 0))) [] ≡ raised (f2 "domain_error" (a "concurrent") (context m (codes "d") 1)) (context m (codes "close_predicate") 1)
+unfolding body_of fresh_body seen_from builtin_goal tree holds broken_call held broken_exit
+a_data_predicate_is_not_closed = refl
+
+-- twice(G) :- call(G), call(G), in another module, and hi :- nl, which only the first module sees
+abbrev twice : Pred
+twice = record {
+  name = record { «module» = codes "b"; name = codes "twice"; arity = 1 };
+  goals = true ∷ [];
+  kind = Rules [] (record { head = f1 "twice" (v 0); body = body_or_fail (body_of (codes "b") (also (f1 "call" (v 0)) (f1 "call" (v 0)))); variables = 1 } ∷ []);
+}
+
+abbrev twice_hi : Code
+twice_hi = record (main_and 20 (twice ∷ pred "hi" 0 (Rules [] (rule 0 (a "hi") (a "nl") ∷ [])) ∷ []) (f1 "twice" (a "hi"))) {
+  sees = λ seer name arity. cond (bytes_eq seer m) (number_of (main_and 20 (twice ∷ pred "hi" 0 (Rules [] []) ∷ []) (a "true")).preds 0 name arity) None;
+}
+
+a_goal_argument_keeps_its_module : asks twice_hi (a "main") (input.Put put.Wrote ∷ []) ≡ request.Put (codes "\n")
+unfolding body_of fresh_body seen_from builtin_goal tree holds broken_call held broken_exit
+a_goal_argument_keeps_its_module = refl
 
 -- ---- assertions
 

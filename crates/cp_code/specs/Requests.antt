@@ -132,9 +132,10 @@ functor_of cells = None
 abbrev pub full_name : PredName → List Cell
 full_name p = context p.module p.name p.arity
 
-abbrev pub asking_with : FactGoal → ℕ → List Cell → Result (List Cell) Refused → Result Asking Refused
-asking_with g object ctx (Ok t) = Ok (record { object = object; call = call_of g t; manner = manner_of g t; error_context = ctx })
-asking_with g object ctx (Err kind) = Err kind
+-- the question that asks with this copy of a fact; what is found is unified with the fact itself, whose variables are the goal's
+abbrev pub asking_with : FactGoal → ℕ → (error_context fact : List Cell) → (copy : Result (List Cell) Refused) → Result Asking Refused
+asking_with g object ctx fact (Ok t) = Ok (record { object = object; call = call_of g t; manner = manner_of g fact; error_context = ctx })
+asking_with g object ctx fact (Err kind) = Err kind
 
 abbrev pub existence_error : List ℕ → List Cell → List Cell
 existence_error what culprit = with_two (codes "existence_error") (word what) culprit
@@ -145,9 +146,9 @@ no_data fact f = existence_error (codes "data") (context fact.seer f.0 f.1)
 
 -- the question of a goal on facts, to what the module that sees its fact sees under that name and arity
 abbrev pub asking_of_kind : FactGoal → Seen → (List ℕ × ℕ) → PredName → Kind → List Cell → Result Asking Refused
-asking_of_kind g fact f p (Shared object true) ctx = asking_with g object ctx (handed_out fact.goal)
+asking_of_kind g fact f p (Shared object true) ctx = asking_with g object ctx fact.goal (handed_out fact.goal)
 asking_of_kind g fact f p (Shared object false) ctx =
-    if needs_concurrent g then Err (domain_error (codes "concurrent") (full_name p)) else asking_with g object ctx (handed_out fact.goal)
+    if needs_concurrent g then Err (domain_error (codes "concurrent") (full_name p)) else asking_with g object ctx fact.goal (handed_out fact.goal)
 asking_of_kind g fact f p kind ctx = Err (no_data fact f)
 
 abbrev pub asking_of_pred : FactGoal → Seen → (List ℕ × ℕ) → Option Pred → List Cell → Result Asking Refused
@@ -169,7 +170,7 @@ fact_asking code g fact ctx = asking_of_functor code g fact (functor_of fact.goa
 
 -- a shared predicate as a goal: `current_fact` of it, in its own name
 abbrev pub pred_asking : ℕ → List Cell → PredName → Result Asking Refused
-pred_asking object goal p = asking_with Current object (full_name p) (handed_out goal)
+pred_asking object goal p = asking_with Current object (full_name p) goal (handed_out goal)
 
 -- ---- goals on engines
 
