@@ -1,9 +1,15 @@
 ghost use Rattle.std.specs.Prelude.{◌≡◌, ◌≤◌, None};
 
 use crate::bounds::Bounds;
-use crate::error::ReadError;
-use cp_lex::Tokens;
-use std::alloc::Global;
+use crate::clause::ReadClause;
+use crate::draft::Draft;
+use crate::error::{ReadError, SyntaxWhy};
+use crate::frame::Stop;
+use crate::machine::Machine;
+use cp_lex::{Token, Tokens};
+use cp_ops::OpTable;
+use cp_term::Term;
+use std::alloc::{AllocError, Global};
 use std::marker::Model;
 
 /// Reads one clause after another. Contracts see the tokens that are left, the bounds, and the refusal that it has
@@ -41,5 +47,67 @@ impl Reader {
             bounds,
             failed: None,
         }
+    }
+
+    /// The next clause, or `None` where no token is left. After a refusal the reader answers it again.
+    pub fn next_clause(&mut self, ops: &OpTable) -> Result<Option<ReadClause>, ReadError> {
+        if let Some(refusal) = self.failed {
+            return Err(refusal);
+        }
+        match self.read(ops) {
+            Ok(clause) => Ok(clause),
+            Err(refusal) => {
+                self.failed = Some(refusal);
+                Err(refusal)
+            }
+        }
+    }
+
+    fn read(&mut self, ops: &OpTable) -> Result<Option<ReadClause>, ReadError> {
+        let tokens = self.tokens.as_slice();
+        let Some(first) = tokens.get(self.at as usize) else {
+            return Ok(None);
+        };
+        let line = first.line;
+        match Machine::new(self.alloc, tokens, self.at as usize).run(ops) {
+            Err(Stop::NoMemory) => Err(ReadError::NoMemory),
+            Err(Stop::Fault { at, why }) => Err(ReadError::Syntax {
+                line: line_at(tokens, at),
+                why,
+            }),
+            Ok((draft, end)) => match term_of(draft, self.bounds) {
+                Ok(Some(term)) => {
+                    self.at = end as u32;
+                    Ok(Some(ReadClause { term, line }))
+                }
+                Ok(None) => Err(ReadError::Syntax {
+                    line,
+                    why: SyntaxWhy::TooLarge,
+                }),
+                Err(_) => Err(ReadError::NoMemory),
+            },
+        }
+    }
+}
+
+/// The line of the token at a place, or of the last token where none stands there.
+fn line_at(tokens: &[Token], at: usize) -> u32 {
+    match tokens.get(at) {
+        Some(token) => token.line,
+        None => match tokens.last() {
+            Some(token) => token.line,
+            None => 0,
+        },
+    }
+}
+
+/// The term, unless it is past the bounds.
+fn term_of(draft: Draft, bounds: Bounds) -> Result<Option<Term>, AllocError> {
+    match draft.into_cells(bounds.cells, bounds.name)? {
+        None => Ok(None),
+        Some(cells) => match Term::from_cells(cells) {
+            Ok(term) => Ok(Some(term)),
+            Err(_) => Err(AllocError),
+        },
     }
 }

@@ -1,0 +1,133 @@
+use cp_term::{Cell, Cells, Name};
+use std::alloc::{AllocError, Global};
+
+/// A cell of a clause that is being read, whose name is still that of the token.
+#[derive(Clone, Copy, Drop)]
+pub(crate) enum DraftCell<'a> {
+    Var(u32),
+    Int(i64),
+    Atom(&'a [u8]),
+    Func(&'a [u8], usize),
+}
+
+/// A cell, and the infix operators whose left operand begins with it. The one that was taken last stands in front.
+#[derive(Drop)]
+struct Piece<'a> {
+    operators: Vec<&'a [u8]>,
+    cell: DraftCell<'a>,
+}
+
+/// The cells of a clause as far as it was read.
+#[derive(Drop)]
+pub(crate) struct Draft<'a> {
+    alloc: Global,
+    pieces: Vec<Piece<'a>>,
+}
+
+impl<'a> Draft<'a> {
+    pub(crate) fn new(alloc: Global) -> Self {
+        Draft {
+            alloc,
+            pieces: Vec::new(alloc),
+        }
+    }
+
+    /// The place of the next cell.
+    pub(crate) fn len(&self) -> usize {
+        self.pieces.len()
+    }
+
+    /// Adds a cell at the end.
+    pub(crate) fn push(&mut self, cell: DraftCell<'a>) -> Result<(), AllocError> {
+        self.pieces.push(Piece {
+            operators: Vec::new(self.alloc),
+            cell,
+        })?;
+        Ok(())
+    }
+
+    /// Makes the terms from a place on the left operand of an infix operator.
+    pub(crate) fn take_left(&mut self, start: usize, name: &'a [u8]) -> Result<(), AllocError> {
+        if let Some(piece) = self.pieces.get_mut(start) {
+            piece.operators.push(name)?;
+        }
+        Ok(())
+    }
+
+    /// Gives the functor at a place its number of arguments.
+    pub(crate) fn set_arity(&mut self, start: usize, arity: usize) {
+        if let Some(piece) = self.pieces.get_mut(start) {
+            if let DraftCell::Func(name, _) = piece.cell {
+                piece.cell = DraftCell::Func(name, arity);
+            }
+        }
+    }
+
+    /// The cells, unless there are more than these bounds admit.
+    pub(crate) fn into_cells(self, cells: u32, name: u32) -> Result<Option<Cells>, AllocError> {
+        let mut list = Cells::new(self.alloc);
+        for piece in self.pieces.iter() {
+            for operator in piece.operators.iter().rev() {
+                if !add(self.alloc, &mut list, DraftCell::Func(operator, 2), cells, name)? {
+                    return Ok(None);
+                }
+            }
+            if !add(self.alloc, &mut list, piece.cell, cells, name)? {
+                return Ok(None);
+            }
+        }
+        Ok(Some(list))
+    }
+}
+
+/// Adds a cell, unless it is past the bounds.
+fn add(
+    alloc: Global,
+    list: &mut Cells,
+    cell: DraftCell,
+    cells: u32,
+    name: u32,
+) -> Result<bool, AllocError> {
+    if list.len() >= cells {
+        return Ok(false);
+    }
+    match cell_of(alloc, cell, name)? {
+        Some(cell) => {
+            list.push(cell)?;
+            Ok(true)
+        }
+        None => Ok(false),
+    }
+}
+
+/// The cell, unless its name or number of arguments is past the bounds.
+fn cell_of(alloc: Global, cell: DraftCell, name: u32) -> Result<Option<Cell>, AllocError> {
+    match cell {
+        DraftCell::Var(number) => Ok(Some(Cell::Var(number))),
+        DraftCell::Int(value) => Ok(Some(Cell::Int(value))),
+        DraftCell::Atom(text) => match name_of(alloc, text, name)? {
+            Some(text) => Ok(Some(Cell::Atom(text))),
+            None => Ok(None),
+        },
+        DraftCell::Func(text, arity) => {
+            if arity > 255 {
+                return Ok(None);
+            }
+            match name_of(alloc, text, name)? {
+                Some(text) => Ok(Some(Cell::Func(text, arity as u16))),
+                None => Ok(None),
+            }
+        }
+    }
+}
+
+/// The name, unless it has more bytes than these.
+fn name_of(alloc: Global, text: &[u8], most: u32) -> Result<Option<Name>, AllocError> {
+    if text.len() > most as usize {
+        return Ok(None);
+    }
+    match Name::of(alloc, text) {
+        Ok(name) => Ok(Some(name)),
+        Err(_) => Err(AllocError),
+    }
+}
