@@ -32,9 +32,9 @@ pub(crate) enum Turn {
     Ended,
 }
 
-/// Why reading stops: a fault at the place of a token, or want of memory.
+/// Why reading stops: a fault at the first of the tokens that are left, or want of memory.
 #[derive(Clone, Copy, Drop)]
 pub(crate) enum Stop {
-    Fault { at: usize, why: SyntaxWhy },
+    Fault(SyntaxWhy),
     NoMemory,
 }

@@ -7,7 +7,7 @@ mod draft;
 mod error;
 mod frame;
 mod laws;
-mod lexeme;
+mod look;
 mod machine;
 mod operators;
 mod reader;

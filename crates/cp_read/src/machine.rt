@@ -3,7 +3,7 @@ ghost use Rattle.std.specs.Prelude.{◌≡◌, ◌≤◌, ◌^◌, neg_ℤ, pos}
 use crate::draft::{Draft, DraftCell};
 use crate::error::SyntaxWhy;
 use crate::frame::{Construct, Frame, Stop, Turn};
-use crate::lexeme::{Lexeme, is_sign, lexeme_at};
+use crate::look::{Look, behind, is_sign, look_at};
 use crate::operators::{ARGUMENT, admitted, begins_operand, infix_at, is_call, prefix_within};
 use crate::variables::Variables;
 use cp_lex::Token;
@@ -17,29 +17,37 @@ const CLAUSE: u16 = 1200;
 #[derive(Drop)]
 pub(crate) struct Machine<'a> {
     tokens: &'a [Token],
-    at: usize,
     variables: Variables<'a>,
     draft: Draft<'a>,
     frames: Vec<Frame>,
 }
 
 impl<'a> Machine<'a> {
-    pub(crate) fn new(alloc: Global, tokens: &'a [Token], at: usize) -> Self {
+    pub(crate) fn new(alloc: Global, tokens: &'a [Token]) -> Self {
         Machine {
             tokens,
-            at,
             variables: Variables::new(alloc),
             draft: Draft::new(alloc),
             frames: Vec::new(alloc),
         }
     }
 
-    /// Reads the clause: its cells, and the place of the token behind it.
-    pub(crate) fn run(mut self, ops: &OpTable) -> Result<(Draft<'a>, usize), Stop> {
+    /// How many tokens are left.
+    pub(crate) fn left(&self) -> usize {
+        self.tokens.len()
+    }
+
+    /// The cells that were read.
+    pub(crate) fn into_draft(self) -> Draft<'a> {
+        self.draft
+    }
+
+    /// Reads the clause.
+    pub(crate) fn run(&mut self, ops: &OpTable) -> Result<(), Stop> {
         let mut turn = Turn::Expects { max: CLAUSE };
         loop {
             match turn {
-                Turn::Ended => return Ok((self.draft, self.at)),
+                Turn::Ended => return Ok(()),
                 Turn::Expects { max } => {
                     turn = self.operand(ops, max)?;
                 }
@@ -52,24 +60,24 @@ impl<'a> Machine<'a> {
 
     /// The first operand of a term, or the whole term.
     fn operand(&mut self, ops: &OpTable, max: u16) -> Result<Turn, Stop> {
-        match lexeme_at(self.tokens, self.at) {
-            Some(Lexeme::Variable(name)) => self.variable(name, max),
-            Some(Lexeme::Text(bytes)) => self.text(bytes, max),
-            Some(Lexeme::Number(value)) => self.number(value, max),
-            Some(Lexeme::Word(name)) => self.word(ops, name, max),
-            Some(Lexeme::CallOpens | Lexeme::Opens) => {
-                self.at += 1;
+        match look_at(self.tokens) {
+            Some(Look::Variable(name)) => self.variable(name, max),
+            Some(Look::Text(bytes)) => self.text(bytes, max),
+            Some(Look::Number(value)) => self.number(value, max),
+            Some(Look::Word(name)) => self.word(ops, name, max),
+            Some(Look::CallOpens | Look::Opens) => {
+                self.tokens = behind(self.tokens);
                 self.open(Construct::Parentheses, self.draft.len(), max, CLAUSE)
             }
-            Some(Lexeme::ListOpens) => self.list(max),
-            Some(Lexeme::BracesOpen) => self.braces(max),
+            Some(Look::ListOpens) => self.list(max),
+            Some(Look::BracesOpen) => self.braces(max),
             _ => self.unexpected(),
         }
     }
 
     fn variable(&mut self, name: &'a [u8], max: u16) -> Result<Turn, Stop> {
         match self.variables.number(name) {
-            Ok(number) => self.primary(DraftCell::Var(number), 1, max),
+            Ok(number) => self.primary(DraftCell::Var(number), behind(self.tokens), max),
             Err(_) => Err(Stop::NoMemory),
         }
     }
@@ -77,7 +85,7 @@ impl<'a> Machine<'a> {
     /// A number of 2 ^ 63 stands behind a sign alone.
     fn number(&mut self, value: u64, max: u16) -> Result<Turn, Stop> {
         if value < 1 << 63 {
-            self.primary(DraftCell::Int(value as i64), 1, max)
+            self.primary(DraftCell::Int(value as i64), behind(self.tokens), max)
         } else {
             self.unexpected()
         }
@@ -94,17 +102,17 @@ impl<'a> Machine<'a> {
             self.push(DraftCell::Int(character as i64))?;
         }
         self.push(DraftCell::Atom(b"[]".as_slice()))?;
-        self.at += 1;
+        self.tokens = behind(self.tokens);
         Ok(has(start, max))
     }
 
     fn word(&mut self, ops: &OpTable, name: &'a [u8], max: u16) -> Result<Turn, Stop> {
-        if is_call(self.tokens, self.at + 1) {
+        if is_call(behind(self.tokens)) {
             return self.call(name, max);
         }
-        if is_sign(self.tokens, self.at) {
-            if let Some(Lexeme::Number(value)) = lexeme_at(self.tokens, self.at + 1) {
-                return self.primary(DraftCell::Int(negative(value)), 2, max);
+        if is_sign(self.tokens) {
+            if let Some(Look::Number(value)) = look_at(behind(self.tokens)) {
+                return self.primary(DraftCell::Int(negative(value)), behind(behind(self.tokens)), max);
             }
         }
         self.plain_word(ops, name, max)
@@ -113,17 +121,17 @@ impl<'a> Machine<'a> {
     fn call(&mut self, name: &'a [u8], max: u16) -> Result<Turn, Stop> {
         let start = self.draft.len();
         self.push(DraftCell::Func(name, 0))?;
-        self.at += 2;
+        self.tokens = behind(behind(self.tokens));
         self.open(Construct::Arguments { before: 0 }, start, max, ARGUMENT)
     }
 
     /// A prefix operator, where its operand follows, or else an atom.
     fn plain_word(&mut self, ops: &OpTable, name: &'a [u8], max: u16) -> Result<Turn, Stop> {
         if let Some(op) = prefix_within(ops, max, name) {
-            if begins_operand(self.tokens, ops, self.at + 1, op.right) {
+            if begins_operand(behind(self.tokens), ops, op.right) {
                 let start = self.draft.len();
                 self.push(DraftCell::Func(name, 1))?;
-                self.at += 1;
+                self.tokens = behind(self.tokens);
                 return self.open(
                     Construct::Operand {
                         priority: op.priority,
@@ -134,36 +142,36 @@ impl<'a> Machine<'a> {
                 );
             }
         }
-        self.primary(DraftCell::Atom(name), 1, max)
+        self.primary(DraftCell::Atom(name), behind(self.tokens), max)
     }
 
     fn list(&mut self, max: u16) -> Result<Turn, Stop> {
-        if let Some(Lexeme::ListCloses) = lexeme_at(self.tokens, self.at + 1) {
-            return self.primary(DraftCell::Atom(b"[]".as_slice()), 2, max);
+        if let Some(Look::ListCloses) = look_at(behind(self.tokens)) {
+            return self.primary(DraftCell::Atom(b"[]".as_slice()), behind(behind(self.tokens)), max);
         }
         let start = self.draft.len();
         self.push(DraftCell::Func(b".".as_slice(), 2))?;
-        self.at += 1;
+        self.tokens = behind(self.tokens);
         self.open(Construct::Elements, start, max, ARGUMENT)
     }
 
     fn braces(&mut self, max: u16) -> Result<Turn, Stop> {
-        if let Some(Lexeme::BracesClose) = lexeme_at(self.tokens, self.at + 1) {
-            return self.primary(DraftCell::Atom(b"{}".as_slice()), 2, max);
+        if let Some(Look::BracesClose) = look_at(behind(self.tokens)) {
+            return self.primary(DraftCell::Atom(b"{}".as_slice()), behind(behind(self.tokens)), max);
         }
         let start = self.draft.len();
         self.push(DraftCell::Func(b"{}".as_slice(), 1))?;
-        self.at += 1;
+        self.tokens = behind(self.tokens);
         self.open(Construct::Braces, start, max, CLAUSE)
     }
 
     /// Goes on from a term: an infix operator takes it in, or the construct in which it stands does.
     fn go_on(&mut self, ops: &OpTable, start: usize, priority: u16, max: u16) -> Result<Turn, Stop> {
-        if let Some(op) = admitted(self.tokens, ops, self.at, max, priority) {
+        if let Some(op) = admitted(self.tokens, ops, max, priority) {
             if self.draft.take_left(start, op.name).is_err() {
                 return Err(Stop::NoMemory);
             }
-            self.at += 1;
+            self.tokens = behind(self.tokens);
             return self.open(
                 Construct::Operand {
                     priority: op.priority,
@@ -180,9 +188,9 @@ impl<'a> Machine<'a> {
     }
 
     fn end(&mut self, ops: &OpTable) -> Result<Turn, Stop> {
-        match lexeme_at(self.tokens, self.at) {
-            Some(Lexeme::ClauseEnds) => {
-                self.at += 1;
+        match look_at(self.tokens) {
+            Some(Look::ClauseEnds) => {
+                self.tokens = behind(self.tokens);
                 Ok(Turn::Ended)
             }
             _ => self.refused(ops),
@@ -191,15 +199,15 @@ impl<'a> Machine<'a> {
 
     /// The term inside a construct has come.
     fn close(&mut self, ops: &OpTable, frame: Frame) -> Result<Turn, Stop> {
-        match (frame.construct, lexeme_at(self.tokens, self.at)) {
+        match (frame.construct, look_at(self.tokens)) {
             (Construct::Operand { priority }, _) => Ok(Turn::Has {
                 start: frame.start,
                 priority,
                 max: frame.max,
             }),
-            (Construct::Parentheses, Some(Lexeme::Closes)) => self.closed(frame),
-            (Construct::Braces, Some(Lexeme::BracesClose)) => self.closed(frame),
-            (Construct::Tail, Some(Lexeme::ListCloses)) => self.closed(frame),
+            (Construct::Parentheses, Some(Look::Closes)) => self.closed(frame),
+            (Construct::Braces, Some(Look::BracesClose)) => self.closed(frame),
+            (Construct::Tail, Some(Look::ListCloses)) => self.closed(frame),
             (Construct::Arguments { before }, next) => self.argument(ops, frame, before, next),
             (Construct::Elements, next) => self.element(ops, frame, next),
             _ => self.refused(ops),
@@ -211,18 +219,18 @@ impl<'a> Machine<'a> {
         ops: &OpTable,
         frame: Frame,
         before: usize,
-        next: Option<Lexeme<'a>>,
+        next: Option<Look<'a>>,
     ) -> Result<Turn, Stop> {
         let Some(count) = before.checked_add(1) else {
             return Err(Stop::NoMemory);
         };
         match next {
-            Some(Lexeme::Closes) => {
+            Some(Look::Closes) => {
                 self.draft.set_arity(frame.start, count);
                 self.closed(frame)
             }
-            Some(Lexeme::Comma) => {
-                self.at += 1;
+            Some(Look::Comma) => {
+                self.tokens = behind(self.tokens);
                 self.open(
                     Construct::Arguments { before: count },
                     frame.start,
@@ -234,30 +242,35 @@ impl<'a> Machine<'a> {
         }
     }
 
-    fn element(&mut self, ops: &OpTable, frame: Frame, next: Option<Lexeme<'a>>) -> Result<Turn, Stop> {
+    fn element(&mut self, ops: &OpTable, frame: Frame, next: Option<Look<'a>>) -> Result<Turn, Stop> {
         match next {
-            Some(Lexeme::ListCloses) => {
+            Some(Look::ListCloses) => {
                 self.push(DraftCell::Atom(b"[]".as_slice()))?;
                 self.closed(frame)
             }
-            Some(Lexeme::Comma) => {
+            Some(Look::Comma) => {
                 self.push(DraftCell::Func(b".".as_slice(), 2))?;
-                self.at += 1;
+                self.tokens = behind(self.tokens);
                 self.open(Construct::Elements, frame.start, frame.max, ARGUMENT)
             }
-            Some(Lexeme::Bar) => {
-                self.at += 1;
+            Some(Look::Bar) => {
+                self.tokens = behind(self.tokens);
                 self.open(Construct::Tail, frame.start, frame.max, ARGUMENT)
             }
             _ => self.refused(ops),
         }
     }
 
-    /// A term of one cell, which takes so many tokens.
-    fn primary(&mut self, cell: DraftCell<'a>, tokens: usize, max: u16) -> Result<Turn, Stop> {
+    /// A term of one cell, with these tokens behind it.
+    fn primary(
+        &mut self,
+        cell: DraftCell<'a>,
+        rest: &'a [Token],
+        max: u16,
+    ) -> Result<Turn, Stop> {
         let start = self.draft.len();
         self.push(cell)?;
-        self.at += tokens;
+        self.tokens = rest;
         Ok(has(start, max))
     }
 
@@ -288,29 +301,25 @@ impl<'a> Machine<'a> {
 
     /// The closing sign of a construct, which is a term of priority 0.
     fn closed(&mut self, frame: Frame) -> Result<Turn, Stop> {
-        self.at += 1;
+        self.tokens = behind(self.tokens);
         Ok(has(frame.start, frame.max))
     }
 
     /// The token cannot come where a term has ended.
     fn refused(&self, ops: &OpTable) -> Result<Turn, Stop> {
-        if infix_at(self.tokens, ops, self.at).is_some() {
-            return Err(Stop::Fault {
-                at: self.at,
-                why: SyntaxWhy::Priority,
-            });
+        if infix_at(self.tokens, ops).is_some() {
+            return Err(Stop::Fault(SyntaxWhy::Priority));
         }
         self.unexpected()
     }
 
     /// No term begins with the token.
     fn unexpected(&self) -> Result<Turn, Stop> {
-        let why = if self.at < self.tokens.len() {
-            SyntaxWhy::UnexpectedToken
+        if self.tokens.is_empty() {
+            Err(Stop::Fault(SyntaxWhy::NoFullStop))
         } else {
-            SyntaxWhy::NoFullStop
-        };
-        Err(Stop::Fault { at: self.at, why })
+            Err(Stop::Fault(SyntaxWhy::UnexpectedToken))
+        }
     }
 }
 

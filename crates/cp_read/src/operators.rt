@@ -1,4 +1,10 @@
-use crate::lexeme::{Lexeme, is_sign, lexeme_at};
+ghost use Rattle.std.specs.Prelude.{◌≡◌, ℕ, List, drop, option_map};
+ghost use Rattle.cp_ops.specs.Operators.{left_of, right_of, look_up};
+ghost use Rattle.cp_read.specs.Lexemes.{Lexeme, lexemes};
+ghost use Rattle.cp_read.specs.Grammar as grammar;
+ghost use Rattle.cp_read.specs.Look.{prefix_seen, infix_seen};
+
+use crate::look::{Look, behind, is_sign, look_at};
 use cp_lex::Token;
 use cp_ops::{Fix, OpTable};
 
@@ -21,7 +27,9 @@ pub(crate) struct Prefix {
 /// The priority of an argument, and of a prefix operator whose own is not allowed.
 pub(crate) const ARGUMENT: u16 = 999;
 
-fn left_of(priority: u16, fix: Fix) -> u16 {
+fn left_of(priority: u16, fix: Fix) -> u16
+    ensures { result ≡ left_of priority fix }
+{
     match fix {
         Fix::Yfx => priority,
         Fix::Xfx | Fix::Xfy => priority.saturating_sub(1),
@@ -29,14 +37,18 @@ fn left_of(priority: u16, fix: Fix) -> u16 {
     }
 }
 
-fn right_of(priority: u16, fix: Fix) -> u16 {
+fn right_of(priority: u16, fix: Fix) -> u16
+    ensures { result ≡ right_of priority fix }
+{
     match fix {
         Fix::Xfy | Fix::Fy => priority,
         Fix::Xfx | Fix::Yfx | Fix::Fx => priority.saturating_sub(1),
     }
 }
 
-fn infix_named<'a>(ops: &OpTable, name: &'a [u8]) -> Option<Infix<'a>> {
+fn infix_named<'a>(ops: &OpTable, name: &'a [u8]) -> Option<Infix<'a>>
+    ensures { (rest : List Lexeme) → option_map (infix_seen rest) result ≡ grammar.infix_by name.entry.now rest (look_up ops.entry.now.infixes name.entry.now) }
+{
     match ops.infix_of(name) {
         None => None,
         Some((priority, fix)) => Some(Infix {
@@ -48,24 +60,27 @@ fn infix_named<'a>(ops: &OpTable, name: &'a [u8]) -> Option<Infix<'a>> {
     }
 }
 
-/// The infix operator at a place, if there is one.
-pub(crate) fn infix_at<'a>(tokens: &'a [Token], ops: &OpTable, at: usize) -> Option<Infix<'a>> {
-    match lexeme_at(tokens, at) {
-        Some(Lexeme::Word(name)) => infix_named(ops, name),
-        Some(Lexeme::Comma) => infix_named(ops, b",".as_slice()),
+/// The infix operator that is the first token, if it is one.
+pub(crate) fn infix_at<'a>(tokens: &'a [Token], ops: &OpTable) -> Option<Infix<'a>>
+    ensures { (seen : List (List ℕ)) → option_map (infix_seen (lexemes seen (drop 1 tokens.entry.now))) result ≡ grammar.infix_at ops.entry.now (lexemes seen tokens.entry.now) }
+{
+    match look_at(tokens) {
+        Some(Look::Word(name)) => infix_named(ops, name),
+        Some(Look::Comma) => infix_named(ops, b",".as_slice()),
         _ => None,
     }
 }
 
-/// The infix operator at a place, where it and the term before it are admitted.
+/// The infix operator that is the first token, where it and the term before it are admitted.
 pub(crate) fn admitted<'a>(
     tokens: &'a [Token],
     ops: &OpTable,
-    at: usize,
     max: u16,
     priority: u16,
-) -> Option<Infix<'a>> {
-    match infix_at(tokens, ops, at) {
+) -> Option<Infix<'a>>
+    ensures { (seen : List (List ℕ)) → option_map (infix_seen (lexemes seen (drop 1 tokens.entry.now))) result ≡ grammar.admitted_by ops.entry.now max priority (grammar.infix_at ops.entry.now (lexemes seen tokens.entry.now)) }
+{
+    match infix_at(tokens, ops) {
         Some(op) => {
             if op.priority <= max && priority <= op.left {
                 Some(op)
@@ -78,7 +93,9 @@ pub(crate) fn admitted<'a>(
 }
 
 /// The prefix operator with this name, as it is used where this priority is allowed.
-pub(crate) fn prefix_within(ops: &OpTable, max: u16, name: &[u8]) -> Option<Prefix> {
+pub(crate) fn prefix_within(ops: &OpTable, max: u16, name: &[u8]) -> Option<Prefix>
+    ensures { option_map prefix_seen result ≡ grammar.prefix_by max (look_up ops.now.prefixes name.now) }
+{
     match ops.prefix_of(name) {
         None => None,
         Some((priority, fix)) => {
@@ -97,38 +114,45 @@ pub(crate) fn prefix_within(ops: &OpTable, max: u16, name: &[u8]) -> Option<Pref
     }
 }
 
-/// Whether the operand of a prefix operator begins at a place, which may have this priority.
-pub(crate) fn begins_operand(tokens: &[Token], ops: &OpTable, at: usize, max: u16) -> bool {
-    match lexeme_at(tokens, at) {
-        Some(Lexeme::Word(name)) => {
-            is_sign(tokens, at)
-                || is_call(tokens, at + 1)
+/// Whether the operand of a prefix operator begins with the first token, which may have this priority.
+pub(crate) fn begins_operand(tokens: &[Token], ops: &OpTable, max: u16) -> bool
+    ensures { (seen : List (List ℕ)) → result ≡ grammar.begins_operand ops.now max (lexemes seen tokens.now) }
+{
+    match look_at(tokens) {
+        Some(Look::Word(name)) => {
+            is_sign(tokens)
+                || is_call(behind(tokens))
                 || ops.infix_of(name).is_none()
                 || is_prefix_within(ops, max, name)
         }
         Some(
-            Lexeme::Variable(_)
-            | Lexeme::Text(_)
-            | Lexeme::Number(_)
-            | Lexeme::CallOpens
-            | Lexeme::Opens
-            | Lexeme::ListOpens
-            | Lexeme::BracesOpen,
+            Look::Variable(_)
+            | Look::Text(_)
+            | Look::Number(_)
+            | Look::CallOpens
+            | Look::Opens
+            | Look::ListOpens
+            | Look::BracesOpen,
         ) => true,
         _ => false,
     }
 }
 
-fn is_prefix_within(ops: &OpTable, max: u16, name: &[u8]) -> bool {
+fn is_prefix_within(ops: &OpTable, max: u16, name: &[u8]) -> bool
+    ensures { result ≡ grammar.is_prefix_within ops.now max (look_up ops.now.prefixes name.now) }
+{
     match ops.prefix_of(name) {
         None => false,
         Some((priority, _)) => priority <= max,
     }
 }
 
-pub(crate) fn is_call(tokens: &[Token], at: usize) -> bool {
-    match lexeme_at(tokens, at) {
-        Some(Lexeme::CallOpens) => true,
+/// Whether the first token opens a call.
+pub(crate) fn is_call(tokens: &[Token]) -> bool
+    ensures { (seen : List (List ℕ)) → result ≡ grammar.is_call (lexemes seen tokens.now) }
+{
+    match look_at(tokens) {
+        Some(Look::CallOpens) => true,
         _ => false,
     }
 }

@@ -64,40 +64,42 @@ impl Reader {
     }
 
     fn read(&mut self, ops: &OpTable) -> Result<Option<ReadClause>, ReadError> {
-        let tokens = self.tokens.as_slice();
-        let Some(first) = tokens.get(self.at as usize) else {
+        let (_, tokens) = self.tokens.as_slice().split_at(self.at as usize);
+        let Some((first, _)) = tokens.split_first() else {
             return Ok(None);
         };
         let line = first.line;
-        match Machine::new(self.alloc, tokens, self.at as usize).run(ops) {
+        let mut machine = Machine::new(self.alloc, tokens);
+        match machine.run(ops) {
             Err(Stop::NoMemory) => Err(ReadError::NoMemory),
-            Err(Stop::Fault { at, why }) => Err(ReadError::Syntax {
-                line: line_at(tokens, at),
+            Err(Stop::Fault(why)) => Err(ReadError::Syntax {
+                line: line_at(tokens, machine.left()),
                 why,
             }),
-            Ok((draft, end)) => match term_of(draft, self.bounds) {
-                Ok(Some(term)) => {
-                    self.at = end as u32;
-                    Ok(Some(ReadClause { term, line }))
+            Ok(()) => {
+                let left = machine.left();
+                match term_of(machine.into_draft(), self.bounds) {
+                    Ok(Some(term)) => {
+                        self.at = self.tokens.len() - left as u32;
+                        Ok(Some(ReadClause { term, line }))
+                    }
+                    Ok(None) => Err(ReadError::Syntax {
+                        line,
+                        why: SyntaxWhy::TooLarge,
+                    }),
+                    Err(_) => Err(ReadError::NoMemory),
                 }
-                Ok(None) => Err(ReadError::Syntax {
-                    line,
-                    why: SyntaxWhy::TooLarge,
-                }),
-                Err(_) => Err(ReadError::NoMemory),
-            },
+            }
         }
     }
 }
 
-/// The line of the token at a place, or of the last token where none stands there.
-fn line_at(tokens: &[Token], at: usize) -> u32 {
-    match tokens.get(at) {
+/// The line of the first of the last tokens, which are so many, or of the last token where they are none.
+fn line_at(tokens: &[Token], left: usize) -> u32 {
+    let at = if left == 0 { 1 } else { left };
+    match tokens.get(tokens.len() - at) {
         Some(token) => token.line,
-        None => match tokens.last() {
-            Some(token) => token.line,
-            None => 0,
-        },
+        None => 0,
     }
 }
 

@@ -1,0 +1,62 @@
+-- A token as the code looks at it, and what it is then as a lexeme.
+use Rattle.std.specs.Prelude.{◌≡◌, ℕ, ◌+◌, ◌≤◌, ◌^◌, Bool, true, false, ◌&&◌, ◌==◌, List, [], ◌∷◌, Option, Some, None, codes}
+use Rattle.std.specs.Str.{is_utf8, bytes_eq}
+use Rattle.cp_lex.specs.declared.token.Token.{Token}
+use Rattle.cp_lex.specs.declared.token.TokenKind.{TokenKind}
+use Rattle.cp_lex.specs.declared.token.TokenKind.TheVariants as kinds
+use Rattle.cp_read.specs.declared.look.Look.{Look}
+use Rattle.cp_read.specs.declared.look.Look.TheVariants as looks
+use Rattle.cp_read.specs.declared.operators.Prefix as declared
+use Rattle.cp_read.specs.declared.operators.Infix as declared_infix
+use Rattle.cp_read.specs.Lexemes.{Lexeme, stray, lexeme_by, int_at}
+use Rattle.cp_read.specs.Grammar.{Prefix, Infix}
+
+-- the token is what it was taken for
+abbrev pub IsLook : Look → TokenKind → Type 0
+IsLook (looks.Variable called) kind = kind ≡ kinds.Variable called.now
+IsLook (looks.Text bytes) kind = (kind ≡ kinds.Text bytes.now) × (is_utf8 bytes.now ≡ true)
+IsLook (looks.Number n) kind = (kind ≡ kinds.Int n) × (n ≤ 2 ^ 63)
+IsLook (looks.Word called) kind = (kind ≡ kinds.Word called.now) × (is_utf8 called.now ≡ true)
+IsLook looks.CallOpens kind = kind ≡ kinds.OpenCall
+IsLook looks.Opens kind = kind ≡ kinds.Punct 40
+IsLook looks.Closes kind = kind ≡ kinds.Punct 41
+IsLook looks.ListOpens kind = kind ≡ kinds.Punct 91
+IsLook looks.ListCloses kind = kind ≡ kinds.Punct 93
+IsLook looks.BracesOpen kind = kind ≡ kinds.Punct 123
+IsLook looks.BracesClose kind = kind ≡ kinds.Punct 125
+IsLook looks.Comma kind = kind ≡ kinds.Punct 44
+IsLook looks.Bar kind = kind ≡ kinds.Punct 124
+IsLook looks.ClauseEnds kind = kind ≡ kinds.End
+IsLook looks.Stray kind = (seen : List (List ℕ)) (t : Token) (ts : List Token) → lexeme_by kind seen t ts ≡ stray
+
+-- what stands in front of these tokens
+abbrev pub IsFront : Option Look → List Token → Type 0
+IsFront None ts = ts ≡ []
+IsFront (Some l) [] = ⊥
+IsFront (Some l) (t ∷ ts) = IsLook l t.kind
+
+-- the token is an unquoted `-`
+abbrev pub is_minus : Token → Bool
+is_minus t = elim (t.kind) [
+  | kinds.Word called ↦ bytes_eq called (codes "-") && t.to == t.from + 1
+  | kinds.Variable called ↦ false
+  | kinds.Int n ↦ false
+  | kinds.Text bytes ↦ false
+  | kinds.Punct c ↦ false
+  | kinds.OpenCall ↦ false
+  | kinds.End ↦ false
+]
+
+-- the first token is an unquoted `-` with an integer directly behind it
+abbrev pub signs : List Token → Bool
+signs [] = false
+signs (t ∷ ts) = is_minus t && int_at t.to ts
+
+-- ---- operators
+
+abbrev pub prefix_seen : declared.Prefix → Prefix
+prefix_seen op = record { priority = op.priority; right = op.right }
+
+-- the infix operator, with these lexemes behind it
+abbrev pub infix_seen : List Lexeme → declared_infix.Infix → Infix
+infix_seen rest op = record { name = op.name.now; priority = op.priority; left = op.left; right = op.right; rest = rest }
