@@ -5,3 +5,5 @@ pub mod Complete
 pub mod WellFormed
 pub mod Numbered
 pub mod ClauseTerm
+pub mod VariableLaws
+pub mod DraftLaws

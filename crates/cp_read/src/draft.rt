@@ -1,5 +1,10 @@
+ghost use Rattle.std.specs.Prelude.{◌≡◌, ℕ, ◌<◌, List, [], ◌∷◌, ◌++◌, length, slice_set, slice_index_or, OnOk};
+ghost use Rattle.cp_term.specs.declared.cell.Cell.TheVariants.{Func};
+ghost use Rattle.cp_read.specs.Drafts.{cell_seen};
+
 use cp_term::{Cell, Cells, Name};
 use std::alloc::{AllocError, Global};
+use std::marker::Model;
 
 /// A cell of a clause that is being read, whose name is still that of the token.
 #[derive(Clone, Copy, Drop)]
@@ -24,8 +29,20 @@ pub(crate) struct Draft<'a> {
     pieces: Vec<Piece<'a>>,
 }
 
+impl<'a> Model for Draft<'a> {
+    ghost use Rattle.std.specs.Prelude.{List};
+    ghost use Rattle.cp_term.specs.declared.cell.Cell.{Cell};
+    ghost use Rattle.cp_read.specs.Drafts.{pieces_in};
+
+    ghost Value = { List (List Cell) };
+
+    ghost view = { pieces_in };
+}
+
 impl<'a> Draft<'a> {
-    pub(crate) fn new(alloc: Global) -> Self {
+    pub(crate) fn new(alloc: Global) -> Self
+        ensures { result ≡ [] }
+    {
         Draft {
             alloc,
             pieces: Vec::new(alloc),
@@ -33,12 +50,16 @@ impl<'a> Draft<'a> {
     }
 
     /// The place of the next cell.
-    pub(crate) fn len(&self) -> usize {
+    pub(crate) fn len(&self) -> usize
+        ensures { result ≡ length self.now }
+    {
         self.pieces.len()
     }
 
     /// Adds a cell at the end.
-    pub(crate) fn push(&mut self, cell: DraftCell<'a>) -> Result<(), AllocError> {
+    pub(crate) fn push(&mut self, cell: DraftCell<'a>) -> Result<(), AllocError>
+        ensures { OnOk result (self.new ≡ self.old ++ (cell_seen cell.entry ∷ []) ∷ []) }
+    {
         self.pieces.push(Piece {
             operators: Vec::new(self.alloc),
             cell,
@@ -47,20 +68,23 @@ impl<'a> Draft<'a> {
     }
 
     /// Makes the terms from a place on the left operand of an infix operator.
-    pub(crate) fn take_left(&mut self, start: usize, name: &'a [u8]) -> Result<(), AllocError> {
-        if let Some(piece) = self.pieces.get_mut(start) {
-            piece.operators.push(name)?;
-        }
+    pub(crate) fn take_left(&mut self, start: usize, name: &'a [u8]) -> Result<(), AllocError>
+        requires { start < length self.old }
+        ensures { OnOk result (self.new ≡ slice_set self.old start (Func name.entry.now 2 ∷ slice_index_or self.old start [])) }
+    {
+        self.pieces[start].operators.push(name)?;
         Ok(())
     }
 
-    /// Gives the functor at a place its number of arguments.
-    pub(crate) fn set_arity(&mut self, start: usize, arity: usize) {
-        if let Some(piece) = self.pieces.get_mut(start) {
-            if let DraftCell::Func(name, _) = piece.cell {
-                piece.cell = DraftCell::Func(name, arity);
-            }
-        }
+    /// Puts another cell in the place of a cell that is no left operand of an infix operator.
+    pub(crate) fn set(&mut self, start: usize, cell: DraftCell<'a>)
+        requires { start < length self.old }
+        ensures { self.new ≡ slice_set self.old start (cell_seen cell.entry ∷ []) }
+    {
+        self.pieces[start] = Piece {
+            operators: Vec::new(self.alloc),
+            cell,
+        };
     }
 
     /// The cells, unless there are more than these bounds admit.

@@ -2,21 +2,21 @@ use crate::error::SyntaxWhy;
 
 /// A construct that is open, of which a term inside is being read.
 #[derive(Clone, Copy, Drop)]
-pub(crate) enum Construct {
+pub(crate) enum Construct<'a> {
     /// The last operand of an operator of this priority.
     Operand { priority: u16 },
     Parentheses,
     Braces,
-    /// The arguments of a compound, with so many before this one.
-    Arguments { before: usize },
+    /// The arguments of a compound with this name, with so many before this one.
+    Arguments { name: &'a [u8], before: usize },
     Elements,
     Tail,
 }
 
 /// A construct, the place of its first cell, and the priority that is allowed to the term that it is or begins.
 #[derive(Clone, Copy, Drop)]
-pub(crate) struct Frame {
-    pub(crate) construct: Construct,
+pub(crate) struct Frame<'a> {
+    pub(crate) construct: Construct<'a>,
     pub(crate) start: usize,
     pub(crate) max: u16,
 }

@@ -19,7 +19,7 @@ pub(crate) struct Machine<'a> {
     tokens: &'a [Token],
     variables: Variables<'a>,
     draft: Draft<'a>,
-    frames: Vec<Frame>,
+    frames: Vec<Frame<'a>>,
 }
 
 impl<'a> Machine<'a> {
@@ -122,7 +122,7 @@ impl<'a> Machine<'a> {
         let start = self.draft.len();
         self.push(DraftCell::Func(name, 0))?;
         self.tokens = behind(behind(self.tokens));
-        self.open(Construct::Arguments { before: 0 }, start, max, ARGUMENT)
+        self.open(Construct::Arguments { name, before: 0 }, start, max, ARGUMENT)
     }
 
     /// A prefix operator, where its operand follows, or else an atom.
@@ -198,7 +198,7 @@ impl<'a> Machine<'a> {
     }
 
     /// The term inside a construct has come.
-    fn close(&mut self, ops: &OpTable, frame: Frame) -> Result<Turn, Stop> {
+    fn close(&mut self, ops: &OpTable, frame: Frame<'a>) -> Result<Turn, Stop> {
         match (frame.construct, look_at(self.tokens)) {
             (Construct::Operand { priority }, _) => Ok(Turn::Has {
                 start: frame.start,
@@ -208,7 +208,7 @@ impl<'a> Machine<'a> {
             (Construct::Parentheses, Some(Look::Closes)) => self.closed(frame),
             (Construct::Braces, Some(Look::BracesClose)) => self.closed(frame),
             (Construct::Tail, Some(Look::ListCloses)) => self.closed(frame),
-            (Construct::Arguments { before }, next) => self.argument(ops, frame, before, next),
+            (Construct::Arguments { name, before }, next) => self.argument(ops, frame, name, before, next),
             (Construct::Elements, next) => self.element(ops, frame, next),
             _ => self.refused(ops),
         }
@@ -217,7 +217,8 @@ impl<'a> Machine<'a> {
     fn argument(
         &mut self,
         ops: &OpTable,
-        frame: Frame,
+        frame: Frame<'a>,
+        name: &'a [u8],
         before: usize,
         next: Option<Look<'a>>,
     ) -> Result<Turn, Stop> {
@@ -226,13 +227,13 @@ impl<'a> Machine<'a> {
         };
         match next {
             Some(Look::Closes) => {
-                self.draft.set_arity(frame.start, count);
+                self.draft.set(frame.start, DraftCell::Func(name, count));
                 self.closed(frame)
             }
             Some(Look::Comma) => {
                 self.tokens = behind(self.tokens);
                 self.open(
-                    Construct::Arguments { before: count },
+                    Construct::Arguments { name, before: count },
                     frame.start,
                     frame.max,
                     ARGUMENT,
@@ -242,7 +243,7 @@ impl<'a> Machine<'a> {
         }
     }
 
-    fn element(&mut self, ops: &OpTable, frame: Frame, next: Option<Look<'a>>) -> Result<Turn, Stop> {
+    fn element(&mut self, ops: &OpTable, frame: Frame<'a>, next: Option<Look<'a>>) -> Result<Turn, Stop> {
         match next {
             Some(Look::ListCloses) => {
                 self.push(DraftCell::Atom(b"[]".as_slice()))?;
@@ -284,7 +285,7 @@ impl<'a> Machine<'a> {
     /// A construct begins, in which a term of at most the inner priority comes next.
     fn open(
         &mut self,
-        construct: Construct,
+        construct: Construct<'a>,
         start: usize,
         max: u16,
         inner: u16,
@@ -300,7 +301,7 @@ impl<'a> Machine<'a> {
     }
 
     /// The closing sign of a construct, which is a term of priority 0.
-    fn closed(&mut self, frame: Frame) -> Result<Turn, Stop> {
+    fn closed(&mut self, frame: Frame<'a>) -> Result<Turn, Stop> {
         self.tokens = behind(self.tokens);
         Ok(has(frame.start, frame.max))
     }
