@@ -7,3 +7,4 @@ pub mod Numbered
 pub mod ClauseTerm
 pub mod VariableLaws
 pub mod DraftLaws
+pub mod MachineLaws

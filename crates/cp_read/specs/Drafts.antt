@@ -1,7 +1,6 @@
 -- The cells of a clause as far as it was read.
 use Rattle.std.specs.Prelude.{◌≡◌, ℕ, Bool, true, false, List, [], ◌∷◌, ◌++◌, map, reverse, length, Option, Some, None}
 use Rattle.std.specs.Borrow.{Bor}
-use Rattle.std.specs.List.{concat}
 use Rattle.cp_term.specs.declared.cell.Cell.{Cell}
 use Rattle.cp_term.specs.declared.cell.Cell.TheVariants.{Var, Int, Atom, Func}
 use Rattle.cp_read.specs.declared.draft.DraftCell.{DraftCell}
@@ -24,3 +23,8 @@ piece_seen p = map operator_cell (reverse p.operators.items) ++ cell_seen p.cell
 
 abbrev pub pieces_in : Inside → List (List Cell)
 pieces_in d = map piece_seen d.pieces.items
+
+-- the cells in a row
+abbrev pub cells_of : List (List Cell) → List Cell
+cells_of [] = []
+cells_of (p ∷ ps) = p ++ cells_of ps

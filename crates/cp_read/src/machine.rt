@@ -1,4 +1,11 @@
-ghost use Rattle.std.specs.Prelude.{◌≡◌, ◌≤◌, ◌^◌, neg_ℤ, pos};
+ghost use Rattle.std.specs.Prelude.{◌≡◌, ℕ, ◌≤◌, ◌^◌, neg_ℤ, pos, List, [], ◌∷◌, ◌++◌, length, drop, Ok, Err, IfOk, OnOk, IfErr};
+ghost use Rattle.cp_read.specs.declared.frame.Turn.TheVariants as turns;
+ghost use Rattle.cp_read.specs.declared.frame.Stop.TheVariants as stops;
+ghost use Rattle.cp_read.specs.Drafts.{cell_seen, cells_of};
+ghost use Rattle.cp_read.specs.Lexemes.{lexemes};
+ghost use Rattle.cp_read.specs.Grammar as grammar;
+ghost use Rattle.cp_read.specs.SeenNames.{nothing_seen};
+ghost use Rattle.cp_read.specs.Stands.{Refuses};
 
 use crate::draft::{Draft, DraftCell};
 use crate::error::SyntaxWhy;
@@ -9,6 +16,7 @@ use crate::variables::Variables;
 use cp_lex::Token;
 use cp_ops::OpTable;
 use std::alloc::Global;
+use std::marker::Model;
 
 /// The priority of a clause, and of what stands in parentheses and braces.
 const CLAUSE: u16 = 1200;
@@ -22,8 +30,18 @@ pub(crate) struct Machine<'a> {
     frames: Vec<Frame<'a>>,
 }
 
+impl<'a> Model for Machine<'a> {
+    ghost use Rattle.cp_read.specs.Progress.{Progress};
+
+    ghost Value = { Progress };
+
+    ghost view = { λ m. record { tokens = m.tokens.now; seen = m.variables; pieces = m.draft; frames = m.frames.items } };
+}
+
 impl<'a> Machine<'a> {
-    pub(crate) fn new(alloc: Global, tokens: &'a [Token]) -> Self {
+    pub(crate) fn new(alloc: Global, tokens: &'a [Token]) -> Self
+        ensures { result ≡ record { tokens = tokens.entry.now; seen = nothing_seen; pieces = []; frames = [] } }
+    {
         Machine {
             tokens,
             variables: Variables::new(alloc),
@@ -33,12 +51,16 @@ impl<'a> Machine<'a> {
     }
 
     /// How many tokens are left.
-    pub(crate) fn left(&self) -> usize {
+    pub(crate) fn left(&self) -> usize
+        ensures { result ≡ length self.now.tokens }
+    {
         self.tokens.len()
     }
 
     /// The cells that were read.
-    pub(crate) fn into_draft(self) -> Draft<'a> {
+    pub(crate) fn into_draft(self) -> Draft<'a>
+        ensures { result ≡ self.entry.pieces }
+    {
         self.draft
     }
 
@@ -268,14 +290,21 @@ impl<'a> Machine<'a> {
         cell: DraftCell<'a>,
         rest: &'a [Token],
         max: u16,
-    ) -> Result<Turn, Stop> {
+    ) -> Result<Turn, Stop>
+        ensures turn { IfOk result (λ t. t ≡ turns.Has (length self.old.pieces) 0 max) }
+        ensures ok { OnOk result (self.new ≡ record self.old { tokens = rest.entry.now; pieces = self.old.pieces ++ (cell_seen cell.entry ∷ []) ∷ [] }) }
+        ensures err { IfErr result (λ e. e ≡ stops.NoMemory) }
+    {
         let start = self.draft.len();
         self.push(cell)?;
         self.tokens = rest;
         Ok(has(start, max))
     }
 
-    fn push(&mut self, cell: DraftCell<'a>) -> Result<(), Stop> {
+    fn push(&mut self, cell: DraftCell<'a>) -> Result<(), Stop>
+        ensures ok { OnOk result (self.new ≡ record self.old { pieces = self.old.pieces ++ (cell_seen cell.entry ∷ []) ∷ [] }) }
+        ensures err { IfErr result (λ e. e ≡ stops.NoMemory) }
+    {
         match self.draft.push(cell) {
             Ok(()) => Ok(()),
             Err(_) => Err(Stop::NoMemory),
@@ -289,7 +318,11 @@ impl<'a> Machine<'a> {
         start: usize,
         max: u16,
         inner: u16,
-    ) -> Result<Turn, Stop> {
+    ) -> Result<Turn, Stop>
+        ensures turn { IfOk result (λ t. t ≡ turns.Expects inner) }
+        ensures ok { OnOk result (self.new ≡ record self.old { frames = self.old.frames ++ record { construct = construct.entry; start = start; max = max } ∷ [] }) }
+        ensures err { IfErr result (λ e. e ≡ stops.NoMemory) }
+    {
         match self.frames.push(Frame {
             construct,
             start,
@@ -301,13 +334,18 @@ impl<'a> Machine<'a> {
     }
 
     /// The closing sign of a construct, which is a term of priority 0.
-    fn closed(&mut self, frame: Frame<'a>) -> Result<Turn, Stop> {
+    fn closed(&mut self, frame: Frame<'a>) -> Result<Turn, Stop>
+        ensures turn { result ≡ Ok (turns.Has frame.entry.start 0 frame.entry.max) }
+        ensures machine { self.new ≡ record self.old { tokens = drop 1 self.old.tokens } }
+    {
         self.tokens = behind(self.tokens);
         Ok(has(frame.start, frame.max))
     }
 
     /// The token cannot come where a term has ended.
-    fn refused(&self, ops: &OpTable) -> Result<Turn, Stop> {
+    fn refused(&self, ops: &OpTable) -> Result<Turn, Stop>
+        ensures { (list : List (List ℕ)) → Refuses result (grammar.refused ops.now (lexemes list self.now.tokens)) (lexemes list self.now.tokens) }
+    {
         if infix_at(self.tokens, ops).is_some() {
             return Err(Stop::Fault(SyntaxWhy::Priority));
         }
@@ -315,7 +353,9 @@ impl<'a> Machine<'a> {
     }
 
     /// No term begins with the token.
-    fn unexpected(&self) -> Result<Turn, Stop> {
+    fn unexpected(&self) -> Result<Turn, Stop>
+        ensures { (list : List (List ℕ)) → Refuses result (grammar.unexpected (lexemes list self.now.tokens)) (lexemes list self.now.tokens) }
+    {
         if self.tokens.is_empty() {
             Err(Stop::Fault(SyntaxWhy::NoFullStop))
         } else {
@@ -325,7 +365,9 @@ impl<'a> Machine<'a> {
 }
 
 /// A term of priority 0.
-fn has(start: usize, max: u16) -> Turn {
+fn has(start: usize, max: u16) -> Turn
+    ensures { result ≡ turns.Has start 0 max }
+{
     Turn::Has {
         start,
         priority: 0,

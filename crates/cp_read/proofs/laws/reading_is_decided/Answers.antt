@@ -1,3 +1,5 @@
+use Rattle.cp_read.proofs.lemmas.MachineLaws.{no_prefix}
+use Rattle.cp_read.specs.Stands.{Steps}
 use Rattle.cp_read.proofs.lemmas.Settles.{decided}
 use Rattle.cp_read.proofs.laws.reading_is_decided.Goals as goal
 
