@@ -8,3 +8,4 @@ pub mod ClauseTerm
 pub mod VariableLaws
 pub mod DraftLaws
 pub mod MachineLaws
+pub mod CloseLaws

@@ -1,5 +1,5 @@
 -- How what the code holds while it reads a clause stands for a state.
-use Rattle.std.specs.Prelude.{◌≡◌, ℕ, ⊤, List, [], ◌∷◌, ◌++◌, length, reverse, Result, Ok, Err, codes}
+use Rattle.std.specs.Prelude.{◌≡◌, ℕ, ⊤, List, [], ◌∷◌, ◌++◌, length, reverse, None, Result, Ok, Err, codes}
 use Rattle.cp_term.specs.declared.cell.Cell.{Cell}
 use Rattle.cp_term.specs.declared.cell.Cell.TheVariants.{Func}
 use Rattle.cp_ops.specs.Operators.{Ops}
@@ -14,7 +14,7 @@ use Rattle.cp_read.specs.Drafts.{cells_of}
 use Rattle.cp_read.specs.Progress.{Progress}
 use Rattle.cp_read.specs.SeenNames.{Knows}
 use Rattle.cp_read.specs.Lexemes.{Lexeme, lexemes}
-use Rattle.cp_read.specs.Grammar.{Stop, stopped, Read, primary, list_cell}
+use Rattle.cp_read.specs.Grammar.{Stop, stopped, Read, primary, admitted, list_cell}
 use Rattle.cp_read.specs.Machine.{Open, operand_of, parentheses, braces, arguments_of, elements_of, tail_of, State, expects, has, meaning}
 
 -- the construct is this one, where these are the pieces that were read of it
@@ -44,6 +44,15 @@ IsState (turns.Has start priority max) r s =
     × (r.pieces ≡ before ++ own) × (length before ≡ start)
     × (s ≡ has os max (record { cells = cells_of own; priority = priority; rest = lexemes list r.tokens }))
 IsState turns.Ended r s = ⊥
+
+-- The state in which a term has come inside this construct, whose frame was taken out, and no infix operator takes it in.
+abbrev pub IsClosing : Ops → Construct → ℕ → ℕ → Progress → State → Type 0
+IsClosing ops construct start outer r s =
+    (list : List (List ℕ)) × (os : List Open) × (o : Open) × (before own mine : List (List Cell)) × (max priority : ℕ)
+    × Knows r.seen list × Stacked (reverse r.frames) before os × (r.pieces ≡ before ++ (own ++ mine)) × (length before ≡ start)
+    × IsOpen construct outer own o
+    × (admitted ops max (record { cells = cells_of mine; priority = priority; rest = lexemes list r.tokens }) ≡ None)
+    × (s ≡ has (o ∷ os) max (record { cells = cells_of mine; priority = priority; rest = lexemes list r.tokens }))
 
 -- The step keeps what the state gives; or the clause has come, or a fault.
 abbrev pub Keeps : Ops → State → Turn → Progress → Type 0

@@ -356,10 +356,9 @@ impl<'a> Machine<'a> {
     fn unexpected(&self) -> Result<Turn, Stop>
         ensures { (list : List (List ℕ)) → Refuses result (grammar.unexpected (lexemes list self.now.tokens)) (lexemes list self.now.tokens) }
     {
-        if self.tokens.is_empty() {
-            Err(Stop::Fault(SyntaxWhy::NoFullStop))
-        } else {
-            Err(Stop::Fault(SyntaxWhy::UnexpectedToken))
+        match self.tokens.split_first() {
+            None => Err(Stop::Fault(SyntaxWhy::NoFullStop)),
+            Some(_) => Err(Stop::Fault(SyntaxWhy::UnexpectedToken)),
         }
     }
 }
