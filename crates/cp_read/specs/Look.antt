@@ -9,7 +9,9 @@ use Rattle.cp_read.specs.declared.look.Look.TheVariants as looks
 use Rattle.cp_read.specs.declared.operators.Prefix as declared
 use Rattle.cp_read.specs.declared.operators.Infix as declared_infix
 use Rattle.cp_read.specs.Lexemes.{Lexeme, stray, lexeme_by, int_at}
-use Rattle.cp_read.specs.Grammar.{Prefix, Infix}
+use Rattle.cp_read.specs.declared.behind.Behind as declared_behind
+use Rattle.cp_read.specs.declared.behind.Behind.TheVariants as signs_behind
+use Rattle.cp_read.specs.Grammar.{Prefix, Infix, Behind, closed_by, comma_and, bar_and, neither}
 
 -- the token is what it was taken for
 abbrev pub IsLook : Look → TokenKind → Type 0
@@ -60,3 +62,10 @@ prefix_seen op = record { priority = op.priority; right = op.right }
 -- the infix operator, with these lexemes behind it
 abbrev pub infix_seen : List Lexeme → declared_infix.Infix → Infix
 infix_seen rest op = record { name = op.name.now; priority = op.priority; left = op.left; right = op.right; rest = rest }
+
+-- what stands behind a term, with these lexemes behind the sign
+abbrev pub IsBehind : declared_behind.Behind → Behind → List Lexeme → Type 0
+IsBehind signs_behind.Closes b rest = b ≡ closed_by rest
+IsBehind signs_behind.Comma b rest = b ≡ comma_and rest
+IsBehind signs_behind.Bar b rest = b ≡ bar_and rest
+IsBehind signs_behind.Other b rest = b ≡ neither

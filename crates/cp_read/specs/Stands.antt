@@ -54,6 +54,13 @@ IsClosing ops construct start outer r s =
     × (admitted ops max (record { cells = cells_of mine; priority = priority; rest = lexemes list r.tokens }) ≡ None)
     × (s ≡ has (o ∷ os) max (record { cells = cells_of mine; priority = priority; rest = lexemes list r.tokens }))
 
+-- The state in which a term has come inside no construct, and no infix operator takes it in.
+abbrev pub IsEnding : Ops → Progress → State → Type 0
+IsEnding ops r s =
+    (list : List (List ℕ)) × (max priority : ℕ) × Knows r.seen list
+    × (admitted ops max (record { cells = cells_of r.pieces; priority = priority; rest = lexemes list r.tokens }) ≡ None)
+    × (s ≡ has [] max (record { cells = cells_of r.pieces; priority = priority; rest = lexemes list r.tokens }))
+
 -- The step keeps what the state gives; or the clause has come, or a fault.
 abbrev pub Keeps : Ops → State → Turn → Progress → Type 0
 Keeps ops s (turns.Expects max) r = (t : State) × IsState (turns.Expects max) r t × (meaning ops s ≡ meaning ops t)

@@ -1,6 +1,7 @@
 //! Reads the clauses of a Prolog text from its tokens.
 #![tactic(auto)]
 
+mod behind;
 mod bounds;
 mod clause;
 mod draft;

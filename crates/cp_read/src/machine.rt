@@ -1,15 +1,20 @@
-ghost use Rattle.std.specs.Prelude.{◌≡◌, ℕ, ◌≤◌, ◌^◌, neg_ℤ, pos, List, [], ◌∷◌, ◌++◌, length, drop, Ok, Err, IfOk, OnOk, IfErr};
+ghost use Rattle.std.specs.Prelude.{◌≡◌, true, false, ℕ, ◌≤◌, ◌^◌, neg_ℤ, pos, List, [], ◌∷◌, ◌++◌, length, drop, Ok, Err, IfOk, OnOk, IfErr};
 ghost use Rattle.cp_read.specs.declared.frame.Turn.TheVariants as turns;
 ghost use Rattle.cp_read.specs.declared.frame.Stop.TheVariants as stops;
 ghost use Rattle.cp_read.specs.Drafts.{cell_seen, cells_of};
 ghost use Rattle.cp_read.specs.Lexemes.{lexemes};
 ghost use Rattle.cp_read.specs.Grammar as grammar;
 ghost use Rattle.cp_read.specs.SeenNames.{nothing_seen};
-ghost use Rattle.cp_read.specs.Stands.{Refuses};
+ghost use Rattle.cp_read.specs.declared.frame.Construct.TheVariants as constructs;
+ghost use Rattle.cp_read.specs.Machine.{State};
+ghost use Rattle.cp_read.specs.Stands.{IsEnding, IsClosing, Steps, Refuses};
 
 use crate::draft::{Draft, DraftCell};
 use crate::error::SyntaxWhy;
 use crate::frame::{Construct, Frame, Stop, Turn};
+use crate::behind::{
+    Behind, behind_argument, behind_element, closes, closes_braces, closes_list, ends_clause,
+};
 use crate::look::{Look, behind, is_sign, look_at};
 use crate::operators::{ARGUMENT, admitted, begins_operand, infix_at, is_call, prefix_within};
 use crate::variables::Variables;
@@ -209,30 +214,53 @@ impl<'a> Machine<'a> {
         }
     }
 
-    fn end(&mut self, ops: &OpTable) -> Result<Turn, Stop> {
-        match look_at(self.tokens) {
-            Some(Look::ClauseEnds) => {
-                self.tokens = behind(self.tokens);
-                Ok(Turn::Ended)
-            }
-            _ => self.refused(ops),
+    fn end(&mut self, ops: &OpTable) -> Result<Turn, Stop>
+        ensures { (s : State) → IsEnding ops.now self.old s → Steps ops.now s result self.new }
+    {
+        if ends_clause(self.tokens) {
+            self.tokens = behind(self.tokens);
+            Ok(Turn::Ended)
+        } else {
+            self.refused(ops)
         }
     }
 
     /// The term inside a construct has come.
-    fn close(&mut self, ops: &OpTable, frame: Frame<'a>) -> Result<Turn, Stop> {
-        match (frame.construct, look_at(self.tokens)) {
-            (Construct::Operand { priority }, _) => Ok(Turn::Has {
+    fn close(&mut self, ops: &OpTable, frame: Frame<'a>) -> Result<Turn, Stop>
+        ensures { (s : State) → IsClosing ops.now frame.entry.construct frame.entry.start frame.entry.max self.old s → Steps ops.now s result self.new }
+    {
+        match frame.construct {
+            Construct::Operand { priority } => Ok(Turn::Has {
                 start: frame.start,
                 priority,
                 max: frame.max,
             }),
-            (Construct::Parentheses, Some(Look::Closes)) => self.closed(frame),
-            (Construct::Braces, Some(Look::BracesClose)) => self.closed(frame),
-            (Construct::Tail, Some(Look::ListCloses)) => self.closed(frame),
-            (Construct::Arguments { name, before }, next) => self.argument(ops, frame, name, before, next),
-            (Construct::Elements, next) => self.element(ops, frame, next),
-            _ => self.refused(ops),
+            Construct::Parentheses => {
+                let closes = closes(self.tokens);
+                self.close_by(ops, frame, closes)
+            }
+            Construct::Braces => {
+                let closes = closes_braces(self.tokens);
+                self.close_by(ops, frame, closes)
+            }
+            Construct::Tail => {
+                let closes = closes_list(self.tokens);
+                self.close_by(ops, frame, closes)
+            }
+            Construct::Arguments { name, before } => self.argument(ops, frame, name, before),
+            Construct::Elements => self.element(ops, frame),
+        }
+    }
+
+    /// The closing sign follows, or is missing.
+    fn close_by(&mut self, ops: &OpTable, frame: Frame<'a>, closes: bool) -> Result<Turn, Stop>
+        ensures yes { closes ≡ true → (result ≡ Ok (turns.Has frame.entry.start 0 frame.entry.max)) × (self.new ≡ record self.old { tokens = drop 1 self.old.tokens }) }
+        ensures no { (list : List (List ℕ)) → closes ≡ false → Refuses result (grammar.refused ops.now (lexemes list self.old.tokens)) (lexemes list self.new.tokens) }
+    {
+        if closes {
+            self.closed(frame)
+        } else {
+            self.refused(ops)
         }
     }
 
@@ -242,45 +270,51 @@ impl<'a> Machine<'a> {
         frame: Frame<'a>,
         name: &'a [u8],
         before: usize,
-        next: Option<Look<'a>>,
-    ) -> Result<Turn, Stop> {
+    ) -> Result<Turn, Stop>
+        ensures { (s : State) → IsClosing ops.now (constructs.Arguments name.entry before) frame.entry.start frame.entry.max self.old s → Steps ops.now s result self.new }
+    {
         let Some(count) = before.checked_add(1) else {
             return Err(Stop::NoMemory);
         };
-        match next {
-            Some(Look::Closes) => {
+        match behind_argument(self.tokens) {
+            Behind::Closes => {
                 self.draft.set(frame.start, DraftCell::Func(name, count));
                 self.closed(frame)
             }
-            Some(Look::Comma) => {
+            Behind::Comma => {
                 self.tokens = behind(self.tokens);
                 self.open(
-                    Construct::Arguments { name, before: count },
+                    Construct::Arguments {
+                        name,
+                        before: count,
+                    },
                     frame.start,
                     frame.max,
                     ARGUMENT,
                 )
             }
-            _ => self.refused(ops),
+            Behind::Bar | Behind::Other => self.refused(ops),
         }
     }
 
-    fn element(&mut self, ops: &OpTable, frame: Frame<'a>, next: Option<Look<'a>>) -> Result<Turn, Stop> {
-        match next {
-            Some(Look::ListCloses) => {
+    fn element(&mut self, ops: &OpTable, frame: Frame<'a>) -> Result<Turn, Stop>
+        ensures { (s : State) → IsClosing ops.now constructs.Elements frame.entry.start frame.entry.max self.old s → Steps ops.now s result self.new }
+    {
+        match behind_element(self.tokens) {
+            Behind::Closes => {
                 self.push(DraftCell::Atom(b"[]".as_slice()))?;
                 self.closed(frame)
             }
-            Some(Look::Comma) => {
+            Behind::Comma => {
                 self.push(DraftCell::Func(b".".as_slice(), 2))?;
                 self.tokens = behind(self.tokens);
                 self.open(Construct::Elements, frame.start, frame.max, ARGUMENT)
             }
-            Some(Look::Bar) => {
+            Behind::Bar => {
                 self.tokens = behind(self.tokens);
                 self.open(Construct::Tail, frame.start, frame.max, ARGUMENT)
             }
-            _ => self.refused(ops),
+            Behind::Other => self.refused(ops),
         }
     }
 
