@@ -1,12 +1,15 @@
 -- Steps where a term has come and its construct goes on.
-use Rattle.std.proofs.Common.{◌≡◌, ℕ, suc, List, [], ◌∷◌, ◌++◌, length, refl, sym, ◌∙◌, ap, subst, Ok, Err, append_assoc}
-use Rattle.std.specs.Prelude.{Option, Some, None, Result, codes, reverse, drop}
+use Rattle.std.proofs.Common.{◌≡◌, ℕ, suc, Bool, true, false, List, [], ◌∷◌, ◌++◌, length, refl, sym, ◌∙◌, ap, subst, Ok, Err, append_assoc}
+use Rattle.std.specs.Prelude.{Option, Some, None, Result, codes, reverse, drop, if◌then◌else◌}
 use Rattle.cp_term.specs.declared.cell.Cell.{Cell}
 use Rattle.cp_term.specs.declared.cell.Cell.TheVariants.{Atom, Func}
 use Rattle.cp_ops.specs.Operators.{Ops}
 use Rattle.cp_read.specs.declared.frame.Construct.{Construct}
 use Rattle.cp_read.specs.declared.frame.Construct.TheVariants as constructs
+use Rattle.cp_read.specs.declared.frame.Turn.{Turn}
 use Rattle.cp_read.specs.declared.frame.Turn.TheVariants as turns
+use Rattle.cp_read.specs.declared.frame.Stop as frame
+use Rattle.cp_read.specs.declared.frame.Stop.TheVariants as stops
 use Rattle.cp_lex.specs.declared.token.Token.{Token}
 use Rattle.cp_lex.specs.declared.token.TokenKind.{TokenKind}
 use Rattle.cp_lex.specs.declared.token.TokenKind.TheVariants as kinds
@@ -14,13 +17,13 @@ use Rattle.cp_read.specs.declared.look.Look.{Look}
 use Rattle.cp_read.specs.declared.look.Look.TheVariants as looks
 use Rattle.cp_read.specs.Look.{IsLook, IsFront}
 use Rattle.cp_read.specs.Lexemes.{Lexeme, lexemes, lexeme_by, seen_behind, closes, braces_close, list_closes, comma, bar, clause_ends}
-use Rattle.cp_read.specs.Grammar.{Stop, Read, ended, primary, admitted, behind_close, behind_brace, behind_bracket, list_cell, empty_list}
+use Rattle.cp_read.specs.Grammar.{Stop, stopped, Read, refused, behind_end, ended, primary, admitted, behind_close, behind_brace, behind_bracket, list_cell, empty_list}
 use Rattle.cp_read.specs.Drafts.{cells_of}
 use Rattle.cp_read.specs.Progress.{Progress}
 use Rattle.cp_read.specs.SeenNames.{Knows}
 use Rattle.cp_read.specs.Machine.{Open, operand_of, parentheses, braces, arguments_of, elements_of, tail_of, closed, max_of, State, has, meaning}
-use Rattle.cp_read.specs.Stands.{IsOpen, Stacked, IsState, IsClosing, Keeps, Steps}
-use Rattle.cp_read.proofs.lemmas.MachineLaws.{close_step, fault_step, more_step}
+use Rattle.cp_read.specs.Stands.{IsOpen, Stacked, IsClosing, IsEnding, Keeps, Steps, Refuses}
+use Rattle.cp_read.proofs.lemmas.MachineLaws.{close_step, fault_step, more_step, end_step}
 
 pub cells_of-append : (a b : List (List Cell)) → cells_of (a ++ b) ≡ cells_of a ++ cells_of b
 cells_of-append [] b = refl
@@ -57,55 +60,91 @@ close_with ops start outer r s list os o before own mine max priority cells know
     has_come ops s (record r { tokens = drop 1 r.tokens }) start 0 outer list os before (own ++ mine) cells (lexemes list (drop 1 r.tokens)) knows stack pieces begins joined refl
       (ap (meaning ops) is ∙ close_step ops o os max left y none gives ∙ ap (λ (m : ℕ). meaning ops (has os m y)) same)
 
-front_of : (ts : List Token) (l : Look) (list : List (List ℕ)) (m : Lexeme) → IsFront (Some l) ts →
-    ((kind : TokenKind) → IsLook l kind → ((t : Token) (more : List Token) → lexeme_by kind list t more ≡ m) × (seen_behind list kind ≡ list)) →
-    lexemes list ts ≡ m ∷ lexemes list (drop 1 ts)
-front_of [] l list m h f = absurd h
-front_of (t ∷ ts) l list m h f = let g = f t.kind h in ap (λ (x : Lexeme). x ∷ lexemes (seen_behind list t.kind) ts) (g.0 t ts) ∙ ap (λ (seen : List (List ℕ)). m ∷ lexemes seen ts) (g.1)
-
--- a token of this kind is this lexeme
-of_kind : (kind wanted : TokenKind) (list : List (List ℕ)) (m : Lexeme) → kind ≡ wanted → ((t : Token) (more : List Token) → lexeme_by wanted list t more ≡ m) → seen_behind list wanted ≡ list →
-    ((t : Token) (more : List Token) → lexeme_by kind list t more ≡ m) × (seen_behind list kind ≡ list)
-of_kind kind wanted list m e f g = (λ t more. ap (λ (k : TokenKind). lexeme_by k list t more) e ∙ f t more, ap (λ (k : TokenKind). seen_behind list k) e ∙ g)
-
-pub front_closes : (ts : List Token) (list : List (List ℕ)) → IsFront (Some looks.Closes) ts → lexemes list ts ≡ closes ∷ lexemes list (drop 1 ts)
-front_closes ts list h = front_of ts looks.Closes list closes h (λ kind e. of_kind kind (kinds.Punct 41) list closes e (λ t more. refl) refl)
-
-pub front_braces_close : (ts : List Token) (list : List (List ℕ)) → IsFront (Some looks.BracesClose) ts → lexemes list ts ≡ braces_close ∷ lexemes list (drop 1 ts)
-front_braces_close ts list h = front_of ts looks.BracesClose list braces_close h (λ kind e. of_kind kind (kinds.Punct 125) list braces_close e (λ t more. refl) refl)
-
-pub front_list_closes : (ts : List Token) (list : List (List ℕ)) → IsFront (Some looks.ListCloses) ts → lexemes list ts ≡ list_closes ∷ lexemes list (drop 1 ts)
-front_list_closes ts list h = front_of ts looks.ListCloses list list_closes h (λ kind e. of_kind kind (kinds.Punct 93) list list_closes e (λ t more. refl) refl)
-
-pub front_comma : (ts : List Token) (list : List (List ℕ)) → IsFront (Some looks.Comma) ts → lexemes list ts ≡ comma ∷ lexemes list (drop 1 ts)
-front_comma ts list h = front_of ts looks.Comma list comma h (λ kind e. of_kind kind (kinds.Punct 44) list comma e (λ t more. refl) refl)
-
-pub front_bar : (ts : List Token) (list : List (List ℕ)) → IsFront (Some looks.Bar) ts → lexemes list ts ≡ bar ∷ lexemes list (drop 1 ts)
-front_bar ts list h = front_of ts looks.Bar list bar h (λ kind e. of_kind kind (kinds.Punct 124) list bar e (λ t more. refl) refl)
-
-pub front_ends : (ts : List Token) (list : List (List ℕ)) → IsFront (Some looks.ClauseEnds) ts → lexemes list ts ≡ clause_ends ∷ lexemes list (drop 1 ts)
-front_ends ts list h = front_of ts looks.ClauseEnds list clause_ends h (λ kind e. of_kind kind kinds.End list clause_ends e (λ t more. refl) refl)
-
-pub close_parentheses : (ops : Ops) (start outer : ℕ) (r : Progress) (s : State) → IsClosing ops constructs.Parentheses start outer r s → IsFront (Some looks.Closes) r.tokens →
+pub close_parentheses : (ops : Ops) (start outer : ℕ) (r : Progress) (s : State) → IsClosing ops constructs.Parentheses start outer r s → ((list : List (List ℕ)) → behind_close (lexemes list r.tokens) ≡ Some (lexemes list (drop 1 r.tokens))) →
     Keeps ops s (turns.Has start 0 outer) (record r { tokens = drop 1 r.tokens })
 close_parentheses ops start outer r s (list, os, o, before, own, mine, max, priority, knows, stack, pieces, begins, (empty, is_open), none, is) front =
     let cells = cells_of mine in
     close_with ops start outer r s list os o before own mine max priority cells knows stack pieces begins
-      (none, is, ap (λ (p : Open). closed ops p (record { cells = cells; priority = priority; rest = lexemes list r.tokens })) is_open ∙ ap (λ (ls : List Lexeme). ended ops (behind_close ls) cells ls) (front_closes r.tokens list front))
+      (none, is, ap (λ (p : Open). closed ops p (record { cells = cells; priority = priority; rest = lexemes list r.tokens })) is_open ∙ ap (λ (x : Option (List Lexeme)). ended ops x cells (lexemes list r.tokens)) (front list))
       (ap max_of is_open) (ap (λ (q : List (List Cell)). cells_of (q ++ mine)) (sym empty))
 
-pub close_braces : (ops : Ops) (start outer : ℕ) (r : Progress) (s : State) → IsClosing ops constructs.Braces start outer r s → IsFront (Some looks.BracesClose) r.tokens →
+pub close_braces : (ops : Ops) (start outer : ℕ) (r : Progress) (s : State) → IsClosing ops constructs.Braces start outer r s → ((list : List (List ℕ)) → behind_brace (lexemes list r.tokens) ≡ Some (lexemes list (drop 1 r.tokens))) →
     Keeps ops s (turns.Has start 0 outer) (record r { tokens = drop 1 r.tokens })
 close_braces ops start outer r s (list, os, o, before, own, mine, max, priority, knows, stack, pieces, begins, (single, is_open), none, is) front =
     let cells = Func (codes "{}") 1 ∷ cells_of mine in
     close_with ops start outer r s list os o before own mine max priority cells knows stack pieces begins
-      (none, is, ap (λ (p : Open). closed ops p (record { cells = cells_of mine; priority = priority; rest = lexemes list r.tokens })) is_open ∙ ap (λ (ls : List Lexeme). ended ops (behind_brace ls) cells ls) (front_braces_close r.tokens list front))
+      (none, is, ap (λ (p : Open). closed ops p (record { cells = cells_of mine; priority = priority; rest = lexemes list r.tokens })) is_open ∙ ap (λ (x : Option (List Lexeme)). ended ops x cells (lexemes list r.tokens)) (front list))
       (ap max_of is_open) (ap (λ (q : List (List Cell)). cells_of (q ++ mine)) (sym single))
 
-pub close_tail : (ops : Ops) (start outer : ℕ) (r : Progress) (s : State) → IsClosing ops constructs.Tail start outer r s → IsFront (Some looks.ListCloses) r.tokens →
+pub close_tail : (ops : Ops) (start outer : ℕ) (r : Progress) (s : State) → IsClosing ops constructs.Tail start outer r s → ((list : List (List ℕ)) → behind_bracket (lexemes list r.tokens) ≡ Some (lexemes list (drop 1 r.tokens))) →
     Keeps ops s (turns.Has start 0 outer) (record r { tokens = drop 1 r.tokens })
 close_tail ops start outer r s (list, os, o, before, own, mine, max, priority, knows, stack, pieces, begins, is_open, none, is) front =
     let cells = cells_of own ++ cells_of mine in
     close_with ops start outer r s list os o before own mine max priority cells knows stack pieces begins
-      (none, is, ap (λ (p : Open). closed ops p (record { cells = cells_of mine; priority = priority; rest = lexemes list r.tokens })) is_open ∙ ap (λ (ls : List Lexeme). ended ops (behind_bracket ls) cells ls) (front_list_closes r.tokens list front))
+      (none, is, ap (λ (p : Open). closed ops p (record { cells = cells_of mine; priority = priority; rest = lexemes list r.tokens })) is_open ∙ ap (λ (x : Option (List Lexeme)). ended ops x cells (lexemes list r.tokens)) (front list))
       (ap max_of is_open) (sym (cells_of-append own mine))
+
+-- ---- faults
+
+steps_to : (ops : Ops) (s : State) (result : Result Turn frame.Stop) (turn : Turn) (r t : Progress) → result ≡ Ok turn → r ≡ t → Keeps ops s turn t → Steps ops s result r
+steps_to ops s result turn r t e f k = subst (λ (p : Progress). Steps ops s result p) (sym f) (subst (λ (x : Result Turn frame.Stop). Steps ops s x t) (sym e) k)
+
+refused_so : (ops : Ops) (s : State) (result : Result Turn frame.Stop) (r : Progress) (list : List (List ℕ)) (given : Result Read Stop) →
+    Refuses result given (lexemes list r.tokens) → ((e : Stop) → given ≡ Err e → meaning ops s ≡ Err e) → Steps ops s result r
+refused_so ops s (Ok turn) r list given h f = absurd h
+refused_so ops s (Err (stops.Fault why)) r list given h f = (list, f (stopped why (lexemes list r.tokens)) h)
+refused_so ops s (Err stops.NoMemory) r list given h f = tt
+
+-- the construct cannot go on
+closing_refused : (ops : Ops) (construct : Construct) (start outer : ℕ) (r t : Progress) (s : State) (result : Result Turn frame.Stop) → IsClosing ops construct start outer r s →
+    ((list : List (List ℕ)) → Refuses result (refused ops (lexemes list r.tokens)) (lexemes list t.tokens)) →
+    ((list : List (List ℕ)) (o : Open) (own mine : List (List Cell)) (priority : ℕ) → IsOpen construct outer own o →
+      closed ops o (record { cells = cells_of mine; priority = priority; rest = lexemes list r.tokens }) ≡ refused ops (lexemes list r.tokens)) →
+    Steps ops s result t
+closing_refused ops construct start outer r t s result (list, os, o, before, own, mine, max, priority, knows, stack, pieces, begins, is_open, none, is) fault gives =
+    let left : Read = record { cells = cells_of mine; priority = priority; rest = lexemes list r.tokens } in
+    refused_so ops s result t list (refused ops (lexemes list r.tokens)) (fault list)
+      (λ e h. ap (meaning ops) is ∙ fault_step ops o os max left e none (gives list o own mine priority is_open ∙ h))
+
+module _ (ops : Ops) (start outer : ℕ) (r t : Progress) (s : State) (result : Result Turn frame.Stop) where
+  pub by_parentheses : (b : Bool) → IsClosing ops constructs.Parentheses start outer r s →
+      ((list : List (List ℕ)) → behind_close (lexemes list r.tokens) ≡ (if b then Some (lexemes list (drop 1 r.tokens)) else None)) →
+      (b ≡ true → (result ≡ Ok (turns.Has start 0 outer)) × (t ≡ record r { tokens = drop 1 r.tokens })) →
+      ((list : List (List ℕ)) → b ≡ false → Refuses result (refused ops (lexemes list r.tokens)) (lexemes list t.tokens)) → Steps ops s result t
+  by_parentheses true h front there missing = let y = there refl in steps_to ops s result (turns.Has start 0 outer) t (record r { tokens = drop 1 r.tokens }) (y.0) (y.1) (close_parentheses ops start outer r s h front)
+  by_parentheses false h front there missing = closing_refused ops constructs.Parentheses start outer r t s result h (λ list. missing list refl) (λ list o own mine priority is.
+      ap (λ (p : Open). closed ops p (record { cells = cells_of mine; priority = priority; rest = lexemes list r.tokens })) (is.1)
+      ∙ ap (λ (x : Option (List Lexeme)). ended ops x (cells_of mine) (lexemes list r.tokens)) (front list))
+
+  pub by_braces : (b : Bool) → IsClosing ops constructs.Braces start outer r s →
+      ((list : List (List ℕ)) → behind_brace (lexemes list r.tokens) ≡ (if b then Some (lexemes list (drop 1 r.tokens)) else None)) →
+      (b ≡ true → (result ≡ Ok (turns.Has start 0 outer)) × (t ≡ record r { tokens = drop 1 r.tokens })) →
+      ((list : List (List ℕ)) → b ≡ false → Refuses result (refused ops (lexemes list r.tokens)) (lexemes list t.tokens)) → Steps ops s result t
+  by_braces true h front there missing = let y = there refl in steps_to ops s result (turns.Has start 0 outer) t (record r { tokens = drop 1 r.tokens }) (y.0) (y.1) (close_braces ops start outer r s h front)
+  by_braces false h front there missing = closing_refused ops constructs.Braces start outer r t s result h (λ list. missing list refl) (λ list o own mine priority is.
+      ap (λ (p : Open). closed ops p (record { cells = cells_of mine; priority = priority; rest = lexemes list r.tokens })) (is.1)
+      ∙ ap (λ (x : Option (List Lexeme)). ended ops x (Func (codes "{}") 1 ∷ cells_of mine) (lexemes list r.tokens)) (front list))
+
+  pub by_tail : (b : Bool) → IsClosing ops constructs.Tail start outer r s →
+      ((list : List (List ℕ)) → behind_bracket (lexemes list r.tokens) ≡ (if b then Some (lexemes list (drop 1 r.tokens)) else None)) →
+      (b ≡ true → (result ≡ Ok (turns.Has start 0 outer)) × (t ≡ record r { tokens = drop 1 r.tokens })) →
+      ((list : List (List ℕ)) → b ≡ false → Refuses result (refused ops (lexemes list r.tokens)) (lexemes list t.tokens)) → Steps ops s result t
+  by_tail true h front there missing = let y = there refl in steps_to ops s result (turns.Has start 0 outer) t (record r { tokens = drop 1 r.tokens }) (y.0) (y.1) (close_tail ops start outer r s h front)
+  by_tail false h front there missing = closing_refused ops constructs.Tail start outer r t s result h (λ list. missing list refl) (λ list o own mine priority is.
+      ap (λ (p : Open). closed ops p (record { cells = cells_of mine; priority = priority; rest = lexemes list r.tokens })) is
+      ∙ ap (λ (x : Option (List Lexeme)). ended ops x (cells_of own ++ cells_of mine) (lexemes list r.tokens)) (front list))
+
+  -- the clause ends, or cannot
+  pub by_end : (b : Bool) → IsEnding ops r s →
+      ((list : List (List ℕ)) → behind_end (lexemes list r.tokens) ≡ (if b then Some (lexemes list (drop 1 r.tokens)) else None)) →
+      (b ≡ true → (result ≡ Ok turns.Ended) × (t ≡ record r { tokens = drop 1 r.tokens })) →
+      ((list : List (List ℕ)) → b ≡ false → Refuses result (refused ops (lexemes list r.tokens)) (lexemes list t.tokens)) → Steps ops s result t
+  by_end true (list, max, priority, knows, none, is) front there missing =
+      let y = there refl in
+      let left : Read = record { cells = cells_of r.pieces; priority = priority; rest = lexemes list r.tokens } in
+      steps_to ops s result turns.Ended t (record r { tokens = drop 1 r.tokens }) (y.0) (y.1)
+        (list, ap (meaning ops) is ∙ end_step ops max left none ∙ ap (λ (x : Option (List Lexeme)). ended ops x (cells_of r.pieces) (lexemes list r.tokens)) (front list))
+  by_end false (list, max, priority, knows, none, is) front there missing =
+      let left : Read = record { cells = cells_of r.pieces; priority = priority; rest = lexemes list r.tokens } in
+      refused_so ops s result t list (refused ops (lexemes list r.tokens)) (missing list refl)
+        (λ e h. ap (meaning ops) is ∙ end_step ops max left none ∙ ap (λ (x : Option (List Lexeme)). ended ops x (cells_of r.pieces) (lexemes list r.tokens)) (front list) ∙ h)
