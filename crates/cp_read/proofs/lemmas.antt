@@ -9,3 +9,4 @@ pub mod VariableLaws
 pub mod DraftLaws
 pub mod MachineLaws
 pub mod CloseLaws
+pub mod MoreLaws

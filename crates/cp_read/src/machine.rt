@@ -217,7 +217,16 @@ impl<'a> Machine<'a> {
     fn end(&mut self, ops: &OpTable) -> Result<Turn, Stop>
         ensures { (s : State) → IsEnding ops.now self.old s → Steps ops.now s result self.new }
     {
-        if ends_clause(self.tokens) {
+        let ends = ends_clause(self.tokens);
+        self.end_by(ops, ends)
+    }
+
+    /// The full stop follows, or is missing.
+    fn end_by(&mut self, ops: &OpTable, ends: bool) -> Result<Turn, Stop>
+        ensures yes { ends ≡ true → (result ≡ Ok turns.Ended) × (self.new ≡ record self.old { tokens = drop 1 self.old.tokens }) }
+        ensures no { (list : List (List ℕ)) → ends ≡ false → Refuses result (grammar.refused ops.now (lexemes list self.old.tokens)) (lexemes list self.new.tokens) }
+    {
+        if ends {
             self.tokens = behind(self.tokens);
             Ok(Turn::Ended)
         } else {

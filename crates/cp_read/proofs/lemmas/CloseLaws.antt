@@ -30,7 +30,7 @@ cells_of-append [] b = refl
 cells_of-append (p ∷ a) b = ap (λ c. p ++ c) (cells_of-append a b) ∙ sym (append_assoc p (cells_of a) (cells_of b))
 
 -- a term has come that begins where the construct did
-has_come : (ops : Ops) (s : State) (r : Progress) (start priority max : ℕ) (list : List (List ℕ)) (os : List Open) (before own : List (List Cell)) (cells : List Cell) (rest : List Lexeme) →
+pub has_come : (ops : Ops) (s : State) (r : Progress) (start priority max : ℕ) (list : List (List ℕ)) (os : List Open) (before own : List (List Cell)) (cells : List Cell) (rest : List Lexeme) →
     Knows r.seen list → Stacked (reverse r.frames) before os → r.pieces ≡ before ++ own → length before ≡ start →
     cells ≡ cells_of own → rest ≡ lexemes list r.tokens →
     meaning ops s ≡ meaning ops (has os max (record { cells = cells; priority = priority; rest = rest })) →
