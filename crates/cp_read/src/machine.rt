@@ -310,21 +310,39 @@ impl<'a> Machine<'a> {
         ensures { (s : State) → IsClosing ops.now constructs.Elements frame.entry.start frame.entry.max self.old s → Steps ops.now s result self.new }
     {
         match behind_element(self.tokens) {
-            Behind::Closes => {
-                self.push(DraftCell::Atom(b"[]".as_slice()))?;
-                self.closed(frame)
-            }
-            Behind::Comma => {
-                self.push(DraftCell::Func(b".".as_slice(), 2))?;
-                self.tokens = behind(self.tokens);
-                self.open(Construct::Elements, frame.start, frame.max, ARGUMENT)
-            }
-            Behind::Bar => {
-                self.tokens = behind(self.tokens);
-                self.open(Construct::Tail, frame.start, frame.max, ARGUMENT)
-            }
+            Behind::Closes => self.list_end(frame),
+            Behind::Comma => self.next_element(frame),
+            Behind::Bar => self.list_tail(frame),
             Behind::Other => self.refused(ops),
         }
+    }
+
+    fn list_end(&mut self, frame: Frame<'a>) -> Result<Turn, Stop>
+        ensures turn { IfOk result (λ t. t ≡ turns.Has frame.entry.start 0 frame.entry.max) }
+        ensures ok { OnOk result (self.new ≡ record self.old { tokens = drop 1 self.old.tokens; pieces = self.old.pieces ++ (grammar.empty_list ∷ []) ∷ [] }) }
+        ensures err { IfErr result (λ e. e ≡ stops.NoMemory) }
+    {
+        self.push(DraftCell::Atom(b"[]".as_slice()))?;
+        self.closed(frame)
+    }
+
+    fn next_element(&mut self, frame: Frame<'a>) -> Result<Turn, Stop>
+        ensures turn { IfOk result (λ t. t ≡ turns.Expects 999) }
+        ensures ok { OnOk result (self.new ≡ record self.old { tokens = drop 1 self.old.tokens; pieces = self.old.pieces ++ (grammar.list_cell ∷ []) ∷ []; frames = self.old.frames ++ record { construct = constructs.Elements; start = frame.entry.start; max = frame.entry.max } ∷ [] }) }
+        ensures err { IfErr result (λ e. e ≡ stops.NoMemory) }
+    {
+        self.push(DraftCell::Func(b".".as_slice(), 2))?;
+        self.tokens = behind(self.tokens);
+        self.open(Construct::Elements, frame.start, frame.max, ARGUMENT)
+    }
+
+    fn list_tail(&mut self, frame: Frame<'a>) -> Result<Turn, Stop>
+        ensures turn { IfOk result (λ t. t ≡ turns.Expects 999) }
+        ensures ok { OnOk result (self.new ≡ record self.old { tokens = drop 1 self.old.tokens; frames = self.old.frames ++ record { construct = constructs.Tail; start = frame.entry.start; max = frame.entry.max } ∷ [] }) }
+        ensures err { IfErr result (λ e. e ≡ stops.NoMemory) }
+    {
+        self.tokens = behind(self.tokens);
+        self.open(Construct::Tail, frame.start, frame.max, ARGUMENT)
     }
 
     /// A term of one cell, with these tokens behind it.

@@ -96,7 +96,7 @@ refused_so ops s (Err (stops.Fault why)) r list given h f = (list, f (stopped wh
 refused_so ops s (Err stops.NoMemory) r list given h f = tt
 
 -- the construct cannot go on
-closing_refused : (ops : Ops) (construct : Construct) (start outer : ℕ) (r t : Progress) (s : State) (result : Result Turn frame.Stop) → IsClosing ops construct start outer r s →
+pub closing_refused : (ops : Ops) (construct : Construct) (start outer : ℕ) (r t : Progress) (s : State) (result : Result Turn frame.Stop) → IsClosing ops construct start outer r s →
     ((list : List (List ℕ)) → Refuses result (refused ops (lexemes list r.tokens)) (lexemes list t.tokens)) →
     ((list : List (List ℕ)) (o : Open) (own mine : List (List Cell)) (priority : ℕ) → IsOpen construct outer own o →
       closed ops o (record { cells = cells_of mine; priority = priority; rest = lexemes list r.tokens }) ≡ refused ops (lexemes list r.tokens)) →

@@ -1,23 +1,26 @@
 -- Steps where a term has come and another comes in its construct, or a sign behind it ends a list or a compound.
 use Rattle.std.proofs.Common.{◌≡◌, ℕ, suc, List, [], ◌∷◌, ◌++◌, length, refl, sym, ◌∙◌, ap, subst, append_assoc}
 use Rattle.std.proofs.lemmas.List.{reverse-append}
-use Rattle.std.specs.Prelude.{reverse, drop, slice_set}
+use Rattle.std.specs.Prelude.{reverse, drop, slice_set, Result, Ok, Err, IfOk, IfErr, OnOk}
 use Rattle.std.specs.Borrow.{Bor}
 use Rattle.cp_term.specs.declared.cell.Cell.{Cell}
 use Rattle.cp_term.specs.declared.cell.Cell.TheVariants.{Func}
 use Rattle.cp_ops.specs.Operators.{Ops}
 use Rattle.cp_read.specs.declared.frame.Construct.TheVariants as constructs
 use Rattle.cp_read.specs.declared.frame.Frame.{Frame}
+use Rattle.cp_read.specs.declared.frame.Turn.{Turn}
 use Rattle.cp_read.specs.declared.frame.Turn.TheVariants as turns
+use Rattle.cp_read.specs.declared.frame.Stop as frame
+use Rattle.cp_read.specs.declared.frame.Stop.TheVariants as stops
 use Rattle.cp_read.specs.Lexemes.{Lexeme, lexemes}
-use Rattle.cp_read.specs.Grammar.{Read, Behind, closed_by, comma_and, bar_and, behind_argument, behind_element, list_cell, empty_list}
+use Rattle.cp_read.specs.Grammar.{Read, Behind, closed_by, comma_and, bar_and, neither, refused, behind_argument, behind_element, list_cell, empty_list}
 use Rattle.cp_read.specs.Drafts.{cells_of}
 use Rattle.cp_read.specs.Progress.{Progress}
 use Rattle.cp_read.specs.SeenNames.{Knows}
 use Rattle.cp_read.specs.Machine.{Open, arguments_of, elements_of, tail_of, closed, max_of, behind_one, behind_item, State, expects, has, meaning}
-use Rattle.cp_read.specs.Stands.{IsOpen, Stacked, IsClosing, Keeps}
+use Rattle.cp_read.specs.Stands.{IsOpen, Stacked, IsClosing, Keeps, Steps, Refuses}
 use Rattle.cp_read.proofs.lemmas.MachineLaws.{close_step, more_step, next_argument, next_element, next_tail}
-use Rattle.cp_read.proofs.lemmas.CloseLaws.{cells_of-append, has_come}
+use Rattle.cp_read.proofs.lemmas.CloseLaws.{cells_of-append, has_come, closing_refused}
 
 -- a construct is open, and a term comes inside
 pub term_comes : (ops : Ops) (s : State) (r : Progress) (f : Frame) (inner : ℕ) (list : List (List ℕ)) (os : List Open) (o : Open) (before own : List (List Cell)) →
@@ -117,3 +120,18 @@ arguments_end ops called count start outer r s (list, os, o, before, own, mine, 
       begins (ap (λ (c : List Cell). Func called.now (suc count) ∷ c) (sym (cells_of-append others mine))) refl
       (ap (meaning ops) is ∙ ap (λ (p : Open). meaning ops (has (p ∷ os) max left)) is_open
       ∙ close_step ops (arguments_of called.now count (cells_of others) outer) os max left y none (ap (λ (b : Behind). behind_one ops called.now count (cells_of others) left b) (front list)))
+
+-- a step that is made, unless memory runs out
+pub made : (ops : Ops) (s : State) (result : Result Turn frame.Stop) (turn : Turn) (r t : Progress) → IfOk result (λ x. x ≡ turn) → OnOk result (r ≡ t) → IfErr result (λ e. e ≡ stops.NoMemory) →
+    Keeps ops s turn t → Steps ops s result r
+made ops s (Ok x) turn r t same now err k = subst (λ (p : Progress). Keeps ops s x p) (sym now) (subst (λ (y : Turn). Keeps ops s y t) (sym same) k)
+made ops s (Err (stops.Fault why)) turn r t same now err k = absurd (let none : ⊥ = cc in none)
+made ops s (Err stops.NoMemory) turn r t same now err k = tt
+
+pub element_refused : (ops : Ops) (start outer : ℕ) (r : Progress) (s : State) (result : Result Turn frame.Stop) → IsClosing ops constructs.Elements start outer r s →
+    ((list : List (List ℕ)) → behind_element (lexemes list r.tokens) ≡ neither) →
+    ((list : List (List ℕ)) → Refuses result (refused ops (lexemes list r.tokens)) (lexemes list r.tokens)) → Steps ops s result r
+element_refused ops start outer r s result h front fault =
+    closing_refused ops constructs.Elements start outer r r s result h fault (λ list o own mine priority is.
+      let left : Read = record { cells = cells_of mine; priority = priority; rest = lexemes list r.tokens } in
+      ap (λ (p : Open). closed ops p left) (is.2) ∙ ap (λ (b : Behind). behind_item ops (is.0) left b) (front list))
