@@ -67,8 +67,18 @@ impl<'a> Draft<'a> {
         Ok(())
     }
 
-    /// Makes the terms from a place on the left operand of an infix operator.
+    /// Makes the term from a place on the left operand of an infix operator, if there is a piece.
     pub(crate) fn take_left(&mut self, start: usize, name: &'a [u8]) -> Result<(), AllocError>
+        ensures { OnOk result (self.new ≡ slice_set self.old start (Func name.entry.now 2 ∷ slice_index_or self.old start [])) }
+    {
+        if start < self.len() {
+            self.take_within(start, name)
+        } else {
+            Ok(())
+        }
+    }
+
+    fn take_within(&mut self, start: usize, name: &'a [u8]) -> Result<(), AllocError>
         requires { start < length self.old }
         ensures { OnOk result (self.new ≡ slice_set self.old start (Func name.entry.now 2 ∷ slice_index_or self.old start [])) }
     {
@@ -76,8 +86,16 @@ impl<'a> Draft<'a> {
         Ok(())
     }
 
-    /// Puts another cell in the place of a cell that is no left operand of an infix operator.
+    /// Puts a cell in the place of a piece, if there is one.
     pub(crate) fn set(&mut self, start: usize, cell: DraftCell<'a>)
+        ensures { self.new ≡ slice_set self.old start (cell_seen cell.entry ∷ []) }
+    {
+        if start < self.len() {
+            self.set_within(start, cell);
+        }
+    }
+
+    fn set_within(&mut self, start: usize, cell: DraftCell<'a>)
         requires { start < length self.old }
         ensures { self.new ≡ slice_set self.old start (cell_seen cell.entry ∷ []) }
     {

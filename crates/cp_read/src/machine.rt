@@ -1,4 +1,5 @@
-ghost use Rattle.std.specs.Prelude.{◌≡◌, true, false, ℕ, ◌≤◌, ◌^◌, neg_ℤ, pos, List, [], ◌∷◌, ◌++◌, length, drop, Ok, Err, IfOk, OnOk, IfErr};
+ghost use Rattle.std.specs.Prelude.{◌≡◌, true, false, ℕ, ◌≤◌, ◌^◌, neg_ℤ, pos, List, [], ◌∷◌, ◌++◌, length, slice_set, drop, Ok, Err, IfOk, OnOk, IfErr};
+ghost use Rattle.cp_term.specs.declared.cell.Cell.TheVariants.{Func};
 ghost use Rattle.cp_read.specs.declared.frame.Turn.TheVariants as turns;
 ghost use Rattle.cp_read.specs.declared.frame.Stop.TheVariants as stops;
 ghost use Rattle.cp_read.specs.Drafts.{cell_seen, cells_of};
@@ -286,24 +287,46 @@ impl<'a> Machine<'a> {
             return Err(Stop::NoMemory);
         };
         match behind_argument(self.tokens) {
-            Behind::Closes => {
-                self.draft.set(frame.start, DraftCell::Func(name, count));
-                self.closed(frame)
-            }
-            Behind::Comma => {
-                self.tokens = behind(self.tokens);
-                self.open(
-                    Construct::Arguments {
-                        name,
-                        before: count,
-                    },
-                    frame.start,
-                    frame.max,
-                    ARGUMENT,
-                )
-            }
+            Behind::Closes => self.arguments_end(frame, name, count),
+            Behind::Comma => self.next_argument(frame, name, count),
             Behind::Bar | Behind::Other => self.refused(ops),
         }
+    }
+
+    fn arguments_end(
+        &mut self,
+        frame: Frame<'a>,
+        name: &'a [u8],
+        count: usize,
+    ) -> Result<Turn, Stop>
+        ensures turn { IfOk result (λ t. t ≡ turns.Has frame.entry.start 0 frame.entry.max) }
+        ensures ok { OnOk result (self.new ≡ record self.old { tokens = drop 1 self.old.tokens; pieces = slice_set self.old.pieces frame.entry.start (Func name.entry.now count ∷ []) }) }
+        ensures err { IfErr result (λ e. e ≡ stops.NoMemory) }
+    {
+        self.draft.set(frame.start, DraftCell::Func(name, count));
+        self.closed(frame)
+    }
+
+    fn next_argument(
+        &mut self,
+        frame: Frame<'a>,
+        name: &'a [u8],
+        count: usize,
+    ) -> Result<Turn, Stop>
+        ensures turn { IfOk result (λ t. t ≡ turns.Expects 999) }
+        ensures ok { OnOk result (self.new ≡ record self.old { tokens = drop 1 self.old.tokens; frames = self.old.frames ++ record { construct = constructs.Arguments name.entry count; start = frame.entry.start; max = frame.entry.max } ∷ [] }) }
+        ensures err { IfErr result (λ e. e ≡ stops.NoMemory) }
+    {
+        self.tokens = behind(self.tokens);
+        self.open(
+            Construct::Arguments {
+                name,
+                before: count,
+            },
+            frame.start,
+            frame.max,
+            ARGUMENT,
+        )
     }
 
     fn element(&mut self, ops: &OpTable, frame: Frame<'a>) -> Result<Turn, Stop>
