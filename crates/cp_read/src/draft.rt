@@ -110,7 +110,13 @@ impl<'a> Draft<'a> {
         let mut list = Cells::new(self.alloc);
         for piece in self.pieces.iter() {
             for operator in piece.operators.iter().rev() {
-                if !add(self.alloc, &mut list, DraftCell::Func(operator, 2), cells, name)? {
+                if !add(
+                    self.alloc,
+                    &mut list,
+                    DraftCell::Func(operator, 2),
+                    cells,
+                    name,
+                )? {
                     return Ok(None);
                 }
             }

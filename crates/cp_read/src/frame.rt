@@ -25,9 +25,15 @@ pub(crate) struct Frame<'a> {
 #[derive(Clone, Copy, Drop)]
 pub(crate) enum Turn {
     /// A term of at most this priority.
-    Expects { max: u16 },
+    Expects {
+        max: u16,
+    },
     /// A term has come, whose first cell stands at a place. It may be an operand, where this priority is allowed.
-    Has { start: usize, priority: u16, max: u16 },
+    Has {
+        start: usize,
+        priority: u16,
+        max: u16,
+    },
     /// The clause has come.
     Ended,
 }

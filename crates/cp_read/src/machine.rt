@@ -10,12 +10,12 @@ ghost use Rattle.cp_read.specs.declared.frame.Construct.TheVariants as construct
 ghost use Rattle.cp_read.specs.Machine.{State};
 ghost use Rattle.cp_read.specs.Stands.{IsEnding, IsClosing, Steps, Refuses};
 
-use crate::draft::{Draft, DraftCell};
-use crate::error::SyntaxWhy;
-use crate::frame::{Construct, Frame, Stop, Turn};
 use crate::behind::{
     Behind, behind_argument, behind_element, closes, closes_braces, closes_list, ends_clause,
 };
+use crate::draft::{Draft, DraftCell};
+use crate::error::SyntaxWhy;
+use crate::frame::{Construct, Frame, Stop, Turn};
 use crate::look::{Look, behind, is_sign, look_at};
 use crate::operators::{ARGUMENT, admitted, begins_operand, infix_at, is_call, prefix_within};
 use crate::variables::Variables;
@@ -79,7 +79,11 @@ impl<'a> Machine<'a> {
                 Turn::Expects { max } => {
                     turn = self.operand(ops, max)?;
                 }
-                Turn::Has { start, priority, max } => {
+                Turn::Has {
+                    start,
+                    priority,
+                    max,
+                } => {
                     turn = self.go_on(ops, start, priority, max)?;
                 }
             }
@@ -140,7 +144,11 @@ impl<'a> Machine<'a> {
         }
         if is_sign(self.tokens) {
             if let Some(Look::Number(value)) = look_at(behind(self.tokens)) {
-                return self.primary(DraftCell::Int(negative(value)), behind(behind(self.tokens)), max);
+                return self.primary(
+                    DraftCell::Int(negative(value)),
+                    behind(behind(self.tokens)),
+                    max,
+                );
             }
         }
         self.plain_word(ops, name, max)
@@ -150,7 +158,12 @@ impl<'a> Machine<'a> {
         let start = self.draft.len();
         self.push(DraftCell::Func(name, 0))?;
         self.tokens = behind(behind(self.tokens));
-        self.open(Construct::Arguments { name, before: 0 }, start, max, ARGUMENT)
+        self.open(
+            Construct::Arguments { name, before: 0 },
+            start,
+            max,
+            ARGUMENT,
+        )
     }
 
     /// A prefix operator, where its operand follows, or else an atom.
@@ -175,7 +188,11 @@ impl<'a> Machine<'a> {
 
     fn list(&mut self, max: u16) -> Result<Turn, Stop> {
         if let Some(Look::ListCloses) = look_at(behind(self.tokens)) {
-            return self.primary(DraftCell::Atom(b"[]".as_slice()), behind(behind(self.tokens)), max);
+            return self.primary(
+                DraftCell::Atom(b"[]".as_slice()),
+                behind(behind(self.tokens)),
+                max,
+            );
         }
         let start = self.draft.len();
         self.push(DraftCell::Func(b".".as_slice(), 2))?;
@@ -185,7 +202,11 @@ impl<'a> Machine<'a> {
 
     fn braces(&mut self, max: u16) -> Result<Turn, Stop> {
         if let Some(Look::BracesClose) = look_at(behind(self.tokens)) {
-            return self.primary(DraftCell::Atom(b"{}".as_slice()), behind(behind(self.tokens)), max);
+            return self.primary(
+                DraftCell::Atom(b"{}".as_slice()),
+                behind(behind(self.tokens)),
+                max,
+            );
         }
         let start = self.draft.len();
         self.push(DraftCell::Func(b"{}".as_slice(), 1))?;
@@ -194,7 +215,13 @@ impl<'a> Machine<'a> {
     }
 
     /// Goes on from a term: an infix operator takes it in, or the construct in which it stands does.
-    fn go_on(&mut self, ops: &OpTable, start: usize, priority: u16, max: u16) -> Result<Turn, Stop> {
+    fn go_on(
+        &mut self,
+        ops: &OpTable,
+        start: usize,
+        priority: u16,
+        max: u16,
+    ) -> Result<Turn, Stop> {
         if let Some(op) = admitted(self.tokens, ops, max, priority) {
             if self.draft.take_left(start, op.name).is_err() {
                 return Err(Stop::NoMemory);
@@ -289,7 +316,8 @@ impl<'a> Machine<'a> {
         match behind_argument(self.tokens) {
             Behind::Closes => self.arguments_end(frame, name, count),
             Behind::Comma => self.next_argument(frame, name, count),
-            Behind::Bar | Behind::Other => self.refused(ops),
+            Behind::Bar => self.refused(ops),
+            Behind::Other => self.refused(ops),
         }
     }
 
@@ -369,12 +397,7 @@ impl<'a> Machine<'a> {
     }
 
     /// A term of one cell, with these tokens behind it.
-    fn primary(
-        &mut self,
-        cell: DraftCell<'a>,
-        rest: &'a [Token],
-        max: u16,
-    ) -> Result<Turn, Stop>
+    fn primary(&mut self, cell: DraftCell<'a>, rest: &'a [Token], max: u16) -> Result<Turn, Stop>
         ensures turn { IfOk result (λ t. t ≡ turns.Has (length self.old.pieces) 0 max) }
         ensures ok { OnOk result (self.new ≡ record self.old { tokens = rest.entry.now; pieces = self.old.pieces ++ (cell_seen cell.entry ∷ []) ∷ [] }) }
         ensures err { IfErr result (λ e. e ≡ stops.NoMemory) }

@@ -55,32 +55,59 @@ fn operators(alloc: Global) -> Result<OpTable, Fail> {
 const CLAUSES: [(&[u8], &[Wanted]); 32] = [
     (b"a -1.", &[F(b"-", 2), A(b"a"), I(1)]),
     (b"f(-).", &[F(b"f", 1), A(b"-")]),
-    (b"\"ab\".", &[F(b".", 2), I(97), F(b".", 2), I(98), A(b"[]")]),
+    (
+        b"\"ab\".",
+        &[F(b".", 2), I(97), F(b".", 2), I(98), A(b"[]")],
+    ),
     (b"check :- a.", &[F(b":-", 2), A(b"check"), A(b"a")]),
     (b"f(:- a).", &[F(b"f", 1), F(b":-", 1), A(b"a")]),
-    (b"p(X, _, Y, X, _).", &[F(b"p", 5), V(0), V(1), V(2), V(0), V(3)]),
+    (
+        b"p(X, _, Y, X, _).",
+        &[F(b"p", 5), V(0), V(1), V(2), V(0), V(3)],
+    ),
     (b"[a, B|T].", &[F(b".", 2), A(b"a"), F(b".", 2), V(0), V(1)]),
-    (b"{[ ], {}}.", &[F(b"{}", 1), F(b",", 2), A(b"[]"), A(b"{}")]),
+    (
+        b"{[ ], {}}.",
+        &[F(b"{}", 1), F(b",", 2), A(b"[]"), A(b"{}")],
+    ),
     (b"-9223372036854775808.", &[I(-9223372036854775808)]),
-    (b"a - b - c.", &[F(b"-", 2), F(b"-", 2), A(b"a"), A(b"b"), A(b"c")]),
-    (b"a ^ b ^ c.", &[F(b"^", 2), A(b"a"), F(b"^", 2), A(b"b"), A(b"c")]),
+    (
+        b"a - b - c.",
+        &[F(b"-", 2), F(b"-", 2), A(b"a"), A(b"b"), A(b"c")],
+    ),
+    (
+        b"a ^ b ^ c.",
+        &[F(b"^", 2), A(b"a"), F(b"^", 2), A(b"b"), A(b"c")],
+    ),
     (b"- 1 .", &[F(b"-", 1), I(1)]),
     (b"1- -1 .", &[F(b"-", 2), I(1), I(-1)]),
     (b"a= \\ b .", &[F(b"=", 2), A(b"a"), F(b"\\", 1), A(b"b")]),
-    (b"a=(\\+ b) .", &[F(b"=", 2), A(b"a"), F(b"\\+", 1), A(b"b")]),
+    (
+        b"a=(\\+ b) .",
+        &[F(b"=", 2), A(b"a"), F(b"\\+", 1), A(b"b")],
+    ),
     (b"- (a+b) .", &[F(b"-", 1), F(b"+", 2), A(b"a"), A(b"b")]),
     (b"(- 1)^2 .", &[F(b"^", 2), F(b"-", 1), I(1), I(2)]),
-    (b"a:-b,c .", &[F(b":-", 2), A(b"a"), F(b",", 2), A(b"b"), A(b"c")]),
+    (
+        b"a:-b,c .",
+        &[F(b":-", 2), A(b"a"), F(b",", 2), A(b"b"), A(b"c")],
+    ),
     (b"_0 is _1 .", &[F(b"is", 2), V(0), V(1)]),
     (b"a ; b .", &[F(b";", 2), A(b"a"), A(b"b")]),
     (b"f((:- a)) .", &[F(b"f", 1), F(b":-", 1), A(b"a")]),
-    (b"m:(is)/2 .", &[F(b":", 2), A(b"m"), F(b"/", 2), A(b"is"), I(2)]),
+    (
+        b"m:(is)/2 .",
+        &[F(b":", 2), A(b"m"), F(b"/", 2), A(b"is"), I(2)],
+    ),
     (b"[-] .", &[F(b".", 2), A(b"-"), A(b"[]")]),
     (b"'hello world' .", &[A(b"hello world")]),
     (b"'[]'(a) .", &[F(b"[]", 1), A(b"a")]),
     (b"'{}'(a,b) .", &[F(b"{}", 2), A(b"a"), A(b"b")]),
     (b"foo -1 .", &[F(b"foo", 1), I(-1)]),
-    (b"(bar a)+b .", &[F(b"+", 2), F(b"bar", 1), A(b"a"), A(b"b")]),
+    (
+        b"(bar a)+b .",
+        &[F(b"+", 2), F(b"bar", 1), A(b"a"), A(b"b")],
+    ),
     (b"bar a+b .", &[F(b"bar", 1), F(b"+", 2), A(b"a"), A(b"b")]),
     (b"0 '/*' 1 .", &[F(b"/*", 2), I(0), I(1)]),
     (b"?- ?- a.", &[F(b"?-", 1), F(b"?-", 1), A(b"a")]),
@@ -118,7 +145,10 @@ fn refusals_stay(rt: HostRuntime) -> Result<(), Fail> {
     let table = operators(rt.alloc())?;
     for (text, line, why) in REFUSED.iter() {
         let mut reader = reader(rt.alloc(), text)?;
-        let refusal = Some(ReadError::Syntax { line: *line, why: *why });
+        let refusal = Some(ReadError::Syntax {
+            line: *line,
+            why: *why,
+        });
         assert_eq!(rt; reader.next_clause(&table).err(), refusal);
         assert_eq!(rt; reader.next_clause(&table).err(), refusal);
     }

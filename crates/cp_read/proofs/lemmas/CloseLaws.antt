@@ -35,17 +35,19 @@ pub has_come : (ops : Ops) (s : State) (r : Progress) (start priority max : ℕ)
     cells ≡ cells_of own → rest ≡ lexemes list r.tokens →
     meaning ops s ≡ meaning ops (has os max (record { cells = cells; priority = priority; rest = rest })) →
     Keeps ops s (turns.Has start priority max) r
-has_come ops s r start priority max list os before own cells rest knows stack pieces begins same behind gives =
-    (has os max (record { cells = cells_of own; priority = priority; rest = lexemes list r.tokens }), (list, os, before, own, knows, stack, pieces, begins, refl),
-      gives ∙ ap (λ (c : List Cell). meaning ops (has os max (record { cells = c; priority = priority; rest = rest }))) same
-      ∙ ap (λ (ls : List Lexeme). meaning ops (has os max (record { cells = cells_of own; priority = priority; rest = ls }))) behind)
+has_come ops s r start priority max list os before own cells rest knows stack pieces begins same behind gives = (
+  has os max (record { cells = cells_of own; priority = priority; rest = lexemes list r.tokens }),
+  (list, os, before, own, knows, stack, pieces, begins, refl),
+  gives ∙ ap (λ (c : List Cell). meaning ops (has os max (record { cells = c; priority = priority; rest = rest }))) same
+      ∙ ap (λ (ls : List Lexeme). meaning ops (has os max (record { cells = cells_of own; priority = priority; rest = ls }))) behind,
+)
 
 pub close_operand : (ops : Ops) (p start outer : ℕ) (r : Progress) (s : State) → IsClosing ops (constructs.Operand p) start outer r s → Keeps ops s (turns.Has start p outer) r
 close_operand ops p start outer r s (list, os, o, before, own, mine, max, priority, knows, stack, pieces, begins, is_open, none, is) =
     let left : Read = record { cells = cells_of mine; priority = priority; rest = lexemes list r.tokens } in
     has_come ops s r start p outer list os before (own ++ mine) (cells_of own ++ cells_of mine) (lexemes list r.tokens) knows stack pieces begins (sym (cells_of-append own mine)) refl
-      (ap (meaning ops) is ∙ ap (λ (o : Open). meaning ops (has (o ∷ os) max left)) is_open
-      ∙ close_step ops (operand_of (cells_of own) p outer) os max left (record { cells = cells_of own ++ cells_of mine; priority = p; rest = lexemes list r.tokens }) none refl)
+    (ap (meaning ops) is ∙ ap (λ (o : Open). meaning ops (has (o ∷ os) max left)) is_open
+    ∙ close_step ops (operand_of (cells_of own) p outer) os max left (record { cells = cells_of own ++ cells_of mine; priority = p; rest = lexemes list r.tokens }) none refl)
 
 -- the closing sign of the construct follows
 close_with : (ops : Ops) (start outer : ℕ) (r : Progress) (s : State) (list : List (List ℕ)) (os : List Open) (o : Open) (before own mine : List (List Cell)) (max priority : ℕ) (cells : List Cell) →
@@ -58,31 +60,31 @@ close_with ops start outer r s list os o before own mine max priority cells know
     let left : Read = record { cells = cells_of mine; priority = priority; rest = lexemes list r.tokens } in
     let y : Read = record { cells = cells; priority = 0; rest = lexemes list (drop 1 r.tokens) } in
     has_come ops s (record r { tokens = drop 1 r.tokens }) start 0 outer list os before (own ++ mine) cells (lexemes list (drop 1 r.tokens)) knows stack pieces begins joined refl
-      (ap (meaning ops) is ∙ close_step ops o os max left y none gives ∙ ap (λ (m : ℕ). meaning ops (has os m y)) same)
+    (ap (meaning ops) is ∙ close_step ops o os max left y none gives ∙ ap (λ (m : ℕ). meaning ops (has os m y)) same)
 
 pub close_parentheses : (ops : Ops) (start outer : ℕ) (r : Progress) (s : State) → IsClosing ops constructs.Parentheses start outer r s → ((list : List (List ℕ)) → behind_close (lexemes list r.tokens) ≡ Some (lexemes list (drop 1 r.tokens))) →
     Keeps ops s (turns.Has start 0 outer) (record r { tokens = drop 1 r.tokens })
 close_parentheses ops start outer r s (list, os, o, before, own, mine, max, priority, knows, stack, pieces, begins, (empty, is_open), none, is) front =
     let cells = cells_of mine in
     close_with ops start outer r s list os o before own mine max priority cells knows stack pieces begins
-      (none, is, ap (λ (p : Open). closed ops p (record { cells = cells; priority = priority; rest = lexemes list r.tokens })) is_open ∙ ap (λ (x : Option (List Lexeme)). ended ops x cells (lexemes list r.tokens)) (front list))
-      (ap max_of is_open) (ap (λ (q : List (List Cell)). cells_of (q ++ mine)) (sym empty))
+    (none, is, ap (λ (p : Open). closed ops p (record { cells = cells; priority = priority; rest = lexemes list r.tokens })) is_open ∙ ap (λ (x : Option (List Lexeme)). ended ops x cells (lexemes list r.tokens)) (front list))
+    (ap max_of is_open) (ap (λ (q : List (List Cell)). cells_of (q ++ mine)) (sym empty))
 
 pub close_braces : (ops : Ops) (start outer : ℕ) (r : Progress) (s : State) → IsClosing ops constructs.Braces start outer r s → ((list : List (List ℕ)) → behind_brace (lexemes list r.tokens) ≡ Some (lexemes list (drop 1 r.tokens))) →
     Keeps ops s (turns.Has start 0 outer) (record r { tokens = drop 1 r.tokens })
 close_braces ops start outer r s (list, os, o, before, own, mine, max, priority, knows, stack, pieces, begins, (single, is_open), none, is) front =
     let cells = Func (codes "{}") 1 ∷ cells_of mine in
     close_with ops start outer r s list os o before own mine max priority cells knows stack pieces begins
-      (none, is, ap (λ (p : Open). closed ops p (record { cells = cells_of mine; priority = priority; rest = lexemes list r.tokens })) is_open ∙ ap (λ (x : Option (List Lexeme)). ended ops x cells (lexemes list r.tokens)) (front list))
-      (ap max_of is_open) (ap (λ (q : List (List Cell)). cells_of (q ++ mine)) (sym single))
+    (none, is, ap (λ (p : Open). closed ops p (record { cells = cells_of mine; priority = priority; rest = lexemes list r.tokens })) is_open ∙ ap (λ (x : Option (List Lexeme)). ended ops x cells (lexemes list r.tokens)) (front list))
+    (ap max_of is_open) (ap (λ (q : List (List Cell)). cells_of (q ++ mine)) (sym single))
 
 pub close_tail : (ops : Ops) (start outer : ℕ) (r : Progress) (s : State) → IsClosing ops constructs.Tail start outer r s → ((list : List (List ℕ)) → behind_bracket (lexemes list r.tokens) ≡ Some (lexemes list (drop 1 r.tokens))) →
     Keeps ops s (turns.Has start 0 outer) (record r { tokens = drop 1 r.tokens })
 close_tail ops start outer r s (list, os, o, before, own, mine, max, priority, knows, stack, pieces, begins, is_open, none, is) front =
     let cells = cells_of own ++ cells_of mine in
     close_with ops start outer r s list os o before own mine max priority cells knows stack pieces begins
-      (none, is, ap (λ (p : Open). closed ops p (record { cells = cells_of mine; priority = priority; rest = lexemes list r.tokens })) is_open ∙ ap (λ (x : Option (List Lexeme)). ended ops x cells (lexemes list r.tokens)) (front list))
-      (ap max_of is_open) (sym (cells_of-append own mine))
+    (none, is, ap (λ (p : Open). closed ops p (record { cells = cells_of mine; priority = priority; rest = lexemes list r.tokens })) is_open ∙ ap (λ (x : Option (List Lexeme)). ended ops x cells (lexemes list r.tokens)) (front list))
+    (ap max_of is_open) (sym (cells_of-append own mine))
 
 -- ---- faults
 
@@ -99,12 +101,12 @@ refused_so ops s (Err stops.NoMemory) r list given h f = tt
 pub closing_refused : (ops : Ops) (construct : Construct) (start outer : ℕ) (r t : Progress) (s : State) (result : Result Turn frame.Stop) → IsClosing ops construct start outer r s →
     ((list : List (List ℕ)) → Refuses result (refused ops (lexemes list r.tokens)) (lexemes list t.tokens)) →
     ((list : List (List ℕ)) (o : Open) (own mine : List (List Cell)) (priority : ℕ) → IsOpen construct outer own o →
-      closed ops o (record { cells = cells_of mine; priority = priority; rest = lexemes list r.tokens }) ≡ refused ops (lexemes list r.tokens)) →
+    closed ops o (record { cells = cells_of mine; priority = priority; rest = lexemes list r.tokens }) ≡ refused ops (lexemes list r.tokens)) →
     Steps ops s result t
 closing_refused ops construct start outer r t s result (list, os, o, before, own, mine, max, priority, knows, stack, pieces, begins, is_open, none, is) fault gives =
     let left : Read = record { cells = cells_of mine; priority = priority; rest = lexemes list r.tokens } in
     refused_so ops s result t list (refused ops (lexemes list r.tokens)) (fault list)
-      (λ e h. ap (meaning ops) is ∙ fault_step ops o os max left e none (gives list o own mine priority is_open ∙ h))
+    (λ e h. ap (meaning ops) is ∙ fault_step ops o os max left e none (gives list o own mine priority is_open ∙ h))
 
 module _ (ops : Ops) (start outer : ℕ) (r t : Progress) (s : State) (result : Result Turn frame.Stop) where
   pub by_parentheses : (b : Bool) → IsClosing ops constructs.Parentheses start outer r s →
@@ -143,8 +145,8 @@ module _ (ops : Ops) (start outer : ℕ) (r t : Progress) (s : State) (result : 
       let y = there refl in
       let left : Read = record { cells = cells_of r.pieces; priority = priority; rest = lexemes list r.tokens } in
       steps_to ops s result turns.Ended t (record r { tokens = drop 1 r.tokens }) (y.0) (y.1)
-        (list, ap (meaning ops) is ∙ end_step ops max left none ∙ ap (λ (x : Option (List Lexeme)). ended ops x (cells_of r.pieces) (lexemes list r.tokens)) (front list))
+      (list, ap (meaning ops) is ∙ end_step ops max left none ∙ ap (λ (x : Option (List Lexeme)). ended ops x (cells_of r.pieces) (lexemes list r.tokens)) (front list))
   by_end false (list, max, priority, knows, none, is) front there missing =
       let left : Read = record { cells = cells_of r.pieces; priority = priority; rest = lexemes list r.tokens } in
       refused_so ops s result t list (refused ops (lexemes list r.tokens)) (missing list refl)
-        (λ e h. ap (meaning ops) is ∙ end_step ops max left none ∙ ap (λ (x : Option (List Lexeme)). ended ops x (cells_of r.pieces) (lexemes list r.tokens)) (front list) ∙ h)
+      (λ e h. ap (meaning ops) is ∙ end_step ops max left none ∙ ap (λ (x : Option (List Lexeme)). ended ops x (cells_of r.pieces) (lexemes list r.tokens)) (front list) ∙ h)

@@ -27,9 +27,17 @@ pub term_comes : (ops : Ops) (s : State) (r : Progress) (f : Frame) (inner : ℕ
     Knows r.seen list → Stacked (reverse r.frames) before os → r.pieces ≡ before ++ own → length before ≡ f.start → IsOpen f.construct f.max own o →
     meaning ops s ≡ meaning ops (expects (o ∷ os) inner (lexemes list r.tokens)) →
     Keeps ops s (turns.Expects inner) (record r { frames = r.frames ++ f ∷ [] })
-term_comes ops s r f inner list os o before own knows stack pieces begins is_open gives =
-    (expects (o ∷ os) inner (lexemes list r.tokens), (list, o ∷ os, knows,
-      subst (λ (fs : List Frame). Stacked fs r.pieces (o ∷ os)) (sym (reverse-append r.frames (f ∷ []))) (before, own, pieces, begins, is_open, stack), refl), gives)
+term_comes ops s r f inner list os o before own knows stack pieces begins is_open gives = (
+  expects (o ∷ os) inner (lexemes list r.tokens),
+  (
+    list,
+    o ∷ os,
+    knows,
+    subst (λ (fs : List Frame). Stacked fs r.pieces (o ∷ os)) (sym (reverse-append r.frames (f ∷ []))) (before, own, pieces, begins, is_open, stack),
+    refl,
+  ),
+  gives,
+)
 
 -- a piece more
 one_more : (before own mine : List (List Cell)) (pieces : List (List Cell)) (p : List Cell) → pieces ≡ before ++ (own ++ mine) → pieces ++ p ∷ [] ≡ before ++ (own ++ (mine ++ p ∷ []))
@@ -54,9 +62,9 @@ list_ends ops start outer r s (list, os, o, before, own, mine, max, priority, kn
     let all = cells ++ list_cell ∷ cells_of mine ++ empty_list ∷ [] in
     let y : Read = record { cells = all; priority = 0; rest = rest } in
     has_come ops s (record r { tokens = drop 1 r.tokens; pieces = r.pieces ++ (empty_list ∷ []) ∷ [] }) start 0 outer list os before (own ++ (mine ++ (empty_list ∷ []) ∷ [])) all rest
-      knows stack (one_more before own mine r.pieces (empty_list ∷ []) pieces) begins (append_assoc cells (list_cell ∷ cells_of mine) (empty_list ∷ []) ∙ sym (with_cell cells own mine empty_list spelled)) refl
-      (ap (meaning ops) is ∙ ap (λ (p : Open). meaning ops (has (p ∷ os) max left)) is_open
-      ∙ close_step ops (elements_of cells outer) os max left y none (ap (λ (b : Behind). behind_item ops cells left b) (front list)))
+    knows stack (one_more before own mine r.pieces (empty_list ∷ []) pieces) begins (append_assoc cells (list_cell ∷ cells_of mine) (empty_list ∷ []) ∙ sym (with_cell cells own mine empty_list spelled)) refl
+    (ap (meaning ops) is ∙ ap (λ (p : Open). meaning ops (has (p ∷ os) max left)) is_open
+    ∙ close_step ops (elements_of cells outer) os max left y none (ap (λ (b : Behind). behind_item ops cells left b) (front list)))
 
 pub element_follows : (ops : Ops) (start outer : ℕ) (r : Progress) (s : State) → IsClosing ops constructs.Elements start outer r s →
     ((list : List (List ℕ)) → behind_element (lexemes list r.tokens) ≡ comma_and (lexemes list (drop 1 r.tokens))) →
@@ -66,10 +74,10 @@ element_follows ops start outer r s (list, os, o, before, own, mine, max, priori
     let rest = lexemes list (drop 1 r.tokens) in
     let more = cells ++ list_cell ∷ cells_of mine in
     term_comes ops s (record r { tokens = drop 1 r.tokens; pieces = r.pieces ++ (list_cell ∷ []) ∷ [] }) (record { construct = constructs.Elements; start = start; max = outer }) 999 list os (elements_of more outer)
-      before (own ++ (mine ++ (list_cell ∷ []) ∷ [])) knows stack (one_more before own mine r.pieces (list_cell ∷ []) pieces) begins
-      (more, with_cell cells own mine list_cell spelled ∙ sym (append_assoc cells (list_cell ∷ cells_of mine) (list_cell ∷ [])), refl)
-      (ap (meaning ops) is ∙ ap (λ (p : Open). meaning ops (has (p ∷ os) max left)) is_open
-      ∙ more_step ops (elements_of cells outer) (elements_of more outer) os max 999 left rest none (next_element ops cells outer left rest (front list)) refl)
+    before (own ++ (mine ++ (list_cell ∷ []) ∷ [])) knows stack (one_more before own mine r.pieces (list_cell ∷ []) pieces) begins
+    (more, with_cell cells own mine list_cell spelled ∙ sym (append_assoc cells (list_cell ∷ cells_of mine) (list_cell ∷ [])), refl)
+    (ap (meaning ops) is ∙ ap (λ (p : Open). meaning ops (has (p ∷ os) max left)) is_open
+    ∙ more_step ops (elements_of cells outer) (elements_of more outer) os max 999 left rest none (next_element ops cells outer left rest (front list)) refl)
 
 pub tail_follows : (ops : Ops) (start outer : ℕ) (r : Progress) (s : State) → IsClosing ops constructs.Elements start outer r s →
     ((list : List (List ℕ)) → behind_element (lexemes list r.tokens) ≡ bar_and (lexemes list (drop 1 r.tokens))) →
@@ -80,9 +88,9 @@ tail_follows ops start outer r s (list, os, o, before, own, mine, max, priority,
     let more = cells ++ list_cell ∷ cells_of mine in
     let same : cells_of (own ++ mine) ≡ more = cells_of-append own mine ∙ ap (λ (c : List Cell). c ++ cells_of mine) spelled ∙ append_assoc cells (list_cell ∷ []) (cells_of mine) in
     term_comes ops s (record r { tokens = drop 1 r.tokens }) (record { construct = constructs.Tail; start = start; max = outer }) 999 list os (tail_of more outer)
-      before (own ++ mine) knows stack pieces begins (ap (λ (c : List Cell). tail_of c outer) (sym same))
-      (ap (meaning ops) is ∙ ap (λ (p : Open). meaning ops (has (p ∷ os) max left)) is_open
-      ∙ more_step ops (elements_of cells outer) (tail_of more outer) os max 999 left rest none (next_tail ops cells outer left rest (front list)) refl)
+    before (own ++ mine) knows stack pieces begins (ap (λ (c : List Cell). tail_of c outer) (sym same))
+    (ap (meaning ops) is ∙ ap (λ (p : Open). meaning ops (has (p ∷ os) max left)) is_open
+    ∙ more_step ops (elements_of cells outer) (tail_of more outer) os max 999 left rest none (next_tail ops cells outer left rest (front list)) refl)
 
 -- ---- arguments
 
@@ -94,10 +102,10 @@ argument_follows ops called count start outer r s (list, os, o, before, own, min
     let rest = lexemes list (drop 1 r.tokens) in
     let more = cells_of others ++ cells_of mine in
     term_comes ops s (record r { tokens = drop 1 r.tokens }) (record { construct = constructs.Arguments called (suc count); start = start; max = outer }) 999 list os (arguments_of called.now (suc count) more outer)
-      before (own ++ mine) knows stack pieces begins
-      (arity, others ++ mine, ap (λ (l : List (List Cell)). l ++ mine) spelled, ap (λ (c : List Cell). arguments_of called.now (suc count) c outer) (sym (cells_of-append others mine)))
-      (ap (meaning ops) is ∙ ap (λ (p : Open). meaning ops (has (p ∷ os) max left)) is_open
-      ∙ more_step ops (arguments_of called.now count (cells_of others) outer) (arguments_of called.now (suc count) more outer) os max 999 left rest none (next_argument ops called.now count (cells_of others) outer left rest (front list)) refl)
+    before (own ++ mine) knows stack pieces begins
+    (arity, others ++ mine, ap (λ (l : List (List Cell)). l ++ mine) spelled, ap (λ (c : List Cell). arguments_of called.now (suc count) c outer) (sym (cells_of-append others mine)))
+    (ap (meaning ops) is ∙ ap (λ (p : Open). meaning ops (has (p ∷ os) max left)) is_open
+    ∙ more_step ops (arguments_of called.now count (cells_of others) outer) (arguments_of called.now (suc count) more outer) os max 999 left rest none (next_argument ops called.now count (cells_of others) outer left rest (front list)) refl)
 
 set_behind : (before behind : List (List Cell)) (p q : List Cell) → slice_set (before ++ p ∷ behind) (length before) q ≡ before ++ q ∷ behind
 set_behind [] behind p q = refl
@@ -113,13 +121,13 @@ arguments_end ops called count start outer r s (list, os, o, before, own, mine, 
     let y : Read = record { cells = all; priority = 0; rest = rest } in
     let now : List (List Cell) = (Func called.now (suc count) ∷ []) ∷ (others ++ mine) in
     has_come ops s (record r { tokens = drop 1 r.tokens; pieces = slice_set r.pieces start (Func called.now (suc count) ∷ []) }) start 0 outer list os before now all rest
-      knows stack
-      (ap (λ (n : ℕ). slice_set r.pieces n (Func called.now (suc count) ∷ [])) (sym begins)
-      ∙ ap (λ (l : List (List Cell)). slice_set l (length before) (Func called.now (suc count) ∷ [])) (pieces ∙ ap (λ (l : List (List Cell)). before ++ (l ++ mine)) spelled)
-      ∙ set_behind before (others ++ mine) (Func called.now arity ∷ []) (Func called.now (suc count) ∷ []))
-      begins (ap (λ (c : List Cell). Func called.now (suc count) ∷ c) (sym (cells_of-append others mine))) refl
-      (ap (meaning ops) is ∙ ap (λ (p : Open). meaning ops (has (p ∷ os) max left)) is_open
-      ∙ close_step ops (arguments_of called.now count (cells_of others) outer) os max left y none (ap (λ (b : Behind). behind_one ops called.now count (cells_of others) left b) (front list)))
+    knows stack
+    (ap (λ (n : ℕ). slice_set r.pieces n (Func called.now (suc count) ∷ [])) (sym begins)
+    ∙ ap (λ (l : List (List Cell)). slice_set l (length before) (Func called.now (suc count) ∷ [])) (pieces ∙ ap (λ (l : List (List Cell)). before ++ (l ++ mine)) spelled)
+    ∙ set_behind before (others ++ mine) (Func called.now arity ∷ []) (Func called.now (suc count) ∷ []))
+    begins (ap (λ (c : List Cell). Func called.now (suc count) ∷ c) (sym (cells_of-append others mine))) refl
+    (ap (meaning ops) is ∙ ap (λ (p : Open). meaning ops (has (p ∷ os) max left)) is_open
+    ∙ close_step ops (arguments_of called.now count (cells_of others) outer) os max left y none (ap (λ (b : Behind). behind_one ops called.now count (cells_of others) left b) (front list)))
 
 -- a step that is made, unless memory runs out
 pub made : (ops : Ops) (s : State) (result : Result Turn frame.Stop) (turn : Turn) (r t : Progress) → IfOk result (λ x. x ≡ turn) → OnOk result (r ≡ t) → IfErr result (λ e. e ≡ stops.NoMemory) →
@@ -133,5 +141,13 @@ pub element_refused : (ops : Ops) (start outer : ℕ) (r : Progress) (s : State)
     ((list : List (List ℕ)) → Refuses result (refused ops (lexemes list r.tokens)) (lexemes list r.tokens)) → Steps ops s result r
 element_refused ops start outer r s result h front fault =
     closing_refused ops constructs.Elements start outer r r s result h fault (λ list o own mine priority is.
-      let left : Read = record { cells = cells_of mine; priority = priority; rest = lexemes list r.tokens } in
-      ap (λ (p : Open). closed ops p left) (is.2) ∙ ap (λ (b : Behind). behind_item ops (is.0) left b) (front list))
+    let left : Read = record { cells = cells_of mine; priority = priority; rest = lexemes list r.tokens } in
+    ap (λ (p : Open). closed ops p left) (is.2) ∙ ap (λ (b : Behind). behind_item ops (is.0) left b) (front list))
+
+pub argument_refused : (ops : Ops) (called : Bor (List ℕ)) (count start outer : ℕ) (r : Progress) (s : State) (result : Result Turn frame.Stop) → IsClosing ops (constructs.Arguments called count) start outer r s →
+    ((list : List (List ℕ)) (name : List ℕ) (cells : List Cell) (x : Read) → x.rest ≡ lexemes list r.tokens → behind_one ops name count cells x (behind_argument (lexemes list r.tokens)) ≡ refused ops (x.rest)) →
+    ((list : List (List ℕ)) → Refuses result (refused ops (lexemes list r.tokens)) (lexemes list r.tokens)) → Steps ops s result r
+argument_refused ops called count start outer r s result h other fault =
+    closing_refused ops (constructs.Arguments called count) start outer r r s result h fault (λ list o own mine priority is.
+    let left : Read = record { cells = cells_of mine; priority = priority; rest = lexemes list r.tokens } in
+    ap (λ (p : Open). closed ops p left) (is.3) ∙ other list called.now (cells_of (is.1)) left refl)

@@ -20,22 +20,22 @@ seen_behind a b x y e f h = subst (λ (p : Progress). (list : List (List ℕ)) �
 pub returns-in-Closes : goal.returns-in-Closes
 returns-in-Closes c = λ s h.
     made c.args.ops.now s c.list_end.result (turns.Has c.args.frame.start 0 c.args.frame.max) c.list_end.new.self (record c.args.self.now { tokens = drop 1 c.args.self.now.tokens; pieces = c.args.self.now.pieces ++ (empty_list ∷ []) ∷ [] })
-      c.list_end.ensures.turn c.list_end.ensures.ok c.list_end.ensures.err
-      (list_ends c.args.ops.now c.args.frame.start c.args.frame.max c.args.self.now s h (seen_behind _ c.args.self.now _ _ c.self.view_is c.in-Closes.is c.behind_element.ensures))
+    c.list_end.ensures.turn c.list_end.ensures.ok c.list_end.ensures.err
+    (list_ends c.args.ops.now c.args.frame.start c.args.frame.max c.args.self.now s h (seen_behind _ c.args.self.now _ _ c.self.view_is c.in-Closes.is c.behind_element.ensures))
 
 pub returns-in-Comma : goal.returns-in-Comma
 returns-in-Comma c = λ s h.
     made c.args.ops.now s c.next_element.result (turns.Expects 999) c.next_element.new.self (record c.args.self.now { tokens = drop 1 c.args.self.now.tokens; pieces = c.args.self.now.pieces ++ (list_cell ∷ []) ∷ []; frames = c.args.self.now.frames ++ record { construct = constructs.Elements; start = c.args.frame.start; max = c.args.frame.max } ∷ [] })
-      c.next_element.ensures.turn c.next_element.ensures.ok c.next_element.ensures.err
-      (element_follows c.args.ops.now c.args.frame.start c.args.frame.max c.args.self.now s h (seen_behind _ c.args.self.now _ _ c.self.view_is c.in-Comma.is c.behind_element.ensures))
+    c.next_element.ensures.turn c.next_element.ensures.ok c.next_element.ensures.err
+    (element_follows c.args.ops.now c.args.frame.start c.args.frame.max c.args.self.now s h (seen_behind _ c.args.self.now _ _ c.self.view_is c.in-Comma.is c.behind_element.ensures))
 
 pub returns-in-Bar : goal.returns-in-Bar
 returns-in-Bar c = λ s h.
     made c.args.ops.now s c.list_tail.result (turns.Expects 999) c.list_tail.new.self (record c.args.self.now { tokens = drop 1 c.args.self.now.tokens; frames = c.args.self.now.frames ++ record { construct = constructs.Tail; start = c.args.frame.start; max = c.args.frame.max } ∷ [] })
-      c.list_tail.ensures.turn c.list_tail.ensures.ok c.list_tail.ensures.err
-      (tail_follows c.args.ops.now c.args.frame.start c.args.frame.max c.args.self.now s h (seen_behind _ c.args.self.now _ _ c.self.view_is c.in-Bar.is c.behind_element.ensures))
+    c.list_tail.ensures.turn c.list_tail.ensures.ok c.list_tail.ensures.err
+    (tail_follows c.args.ops.now c.args.frame.start c.args.frame.max c.args.self.now s h (seen_behind _ c.args.self.now _ _ c.self.view_is c.in-Bar.is c.behind_element.ensures))
 
 pub returns-in-Other : goal.returns-in-Other
 returns-in-Other c = λ s h.
     element_refused c.args.ops.now c.args.frame.start c.args.frame.max c.args.self.now s c.refused.result h
-      (seen_behind _ c.args.self.now _ _ c.self.view_is c.in-Other.is c.behind_element.ensures) c.refused.ensures
+    (seen_behind _ c.args.self.now _ _ c.self.view_is c.in-Other.is c.behind_element.ensures) c.refused.ensures
