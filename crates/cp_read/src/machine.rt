@@ -92,14 +92,16 @@ impl<'a> Machine<'a> {
 
     /// The first operand of a term, or the whole term.
     fn operand(&mut self, ops: &OpTable, max: u16) -> Result<Turn, Stop> {
-        match look_at(self.tokens) {
+        let tokens = self.tokens;
+        match look_at(tokens) {
             Some(Look::Variable(name)) => self.variable(name, max),
             Some(Look::Text(bytes)) => self.text(bytes, max),
             Some(Look::Number(value)) => self.number(value, max),
             Some(Look::Word(name)) => self.word(ops, name, max),
             Some(Look::CallOpens | Look::Opens) => {
                 self.tokens = behind(self.tokens);
-                self.open(Construct::Parentheses, self.draft.len(), max, CLAUSE)
+                let start = self.draft.len();
+                self.open(Construct::Parentheses, start, max, CLAUSE)
             }
             Some(Look::ListOpens) => self.list(max),
             Some(Look::BracesOpen) => self.braces(max),
@@ -187,10 +189,11 @@ impl<'a> Machine<'a> {
     }
 
     fn list(&mut self, max: u16) -> Result<Turn, Stop> {
-        if let Some(Look::ListCloses) = look_at(behind(self.tokens)) {
+        let tokens = self.tokens;
+        if let Some(Look::ListCloses) = look_at(behind(tokens)) {
             return self.primary(
                 DraftCell::Atom(b"[]".as_slice()),
-                behind(behind(self.tokens)),
+                behind(behind(tokens)),
                 max,
             );
         }
@@ -201,10 +204,11 @@ impl<'a> Machine<'a> {
     }
 
     fn braces(&mut self, max: u16) -> Result<Turn, Stop> {
-        if let Some(Look::BracesClose) = look_at(behind(self.tokens)) {
+        let tokens = self.tokens;
+        if let Some(Look::BracesClose) = look_at(behind(tokens)) {
             return self.primary(
                 DraftCell::Atom(b"{}".as_slice()),
-                behind(behind(self.tokens)),
+                behind(behind(tokens)),
                 max,
             );
         }

@@ -97,7 +97,7 @@ impl Reader {
 /// The line of the first of the last tokens, which are so many, or of the last token where they are none.
 fn line_at(tokens: &[Token], left: usize) -> u32 {
     let at = if left == 0 { 1 } else { left };
-    match tokens.get(tokens.len() - at) {
+    match tokens.get(tokens.len().saturating_sub(at)) {
         Some(token) => token.line,
         None => 0,
     }
