@@ -5,7 +5,8 @@ use Rattle.cp_term.specs.declared.cell.Cell.TheVariants.{Var, Int, Atom, Func}
 use Rattle.std.specs.Char.{encode_utf8}
 use Rattle.std.specs.Str.{chars}
 use Rattle.cp_goal.specs.Errors.{word, instantiation_error, evaluation_error, domain_error, resource_error, syntax_error}
-use Rattle.cp_goal.specs.Evaluation.{value, Unbound, NotEvaluable}
+use Rattle.cp_goal.specs.Evaluation.{value}
+use Rattle.cp_goal.specs.declared.why.Why.TheVariants.{Unbound, NotEvaluable}
 use Rattle.cp_goal.specs.Lists.{list_term}
 use Rattle.cp_goal.specs.Names.{builtin_named}
 use Rattle.cp_goal.specs.Builtins.{builtin, Succeeds, Fails, Raises, codes_term}

@@ -10,13 +10,9 @@ use Rattle.cp_goal.specs.declared.fault.Fault.TheVariants.{ZeroDivisor, IntOverf
 use Rattle.cp_goal.specs.declared.unary.Unary.{Unary}
 use Rattle.cp_goal.specs.declared.binary.Binary.{Binary}
 use Rattle.cp_goal.specs.Errors.{instantiation_error, type_error, domain_error, evaluation_error, indicator}
+use Rattle.cp_goal.specs.declared.why.Why.{Why}
+use Rattle.cp_goal.specs.declared.why.Why.TheVariants.{Unbound, NotEvaluable, Faulty}
 use Rattle.cp_goal.specs.Operations.{unary_named, unary_value, binary_named, binary_value}
-
--- why an expression has no value: a variable that is not bound, an atom or compound that is no operation, a fault
-pub data Why : Type 0 where
-  Unbound : Why
-  NotEvaluable : (name : List ℕ) (arity : ℕ) → Why
-  Faulty : Fault → Why
 
 abbrev pub Value : Type 0
 Value = Result ℤ Why
@@ -25,17 +21,23 @@ abbrev pub or_faulty : Result ℤ Fault → Value
 or_faulty (Ok z) = Ok z
 or_faulty (Err f) = Err (Faulty f)
 
--- an operation on one value, and on two
+-- an operation on one value, and on two, of which the first that is none counts
+abbrev pub applied : Unary → Value → Value
+applied op (Err e) = Err e
+applied op (Ok a) = or_faulty (unary_value op a)
+
+abbrev pub applied_to_two : Binary → Value → Value → Value
+applied_to_two op (Err e) y = Err e
+applied_to_two op (Ok a) (Err e) = Err e
+applied_to_two op (Ok a) (Ok b) = or_faulty (binary_value op a b)
+
 abbrev pub unary_of : Option Unary → List ℕ → Value → Value
 unary_of None name x = Err (NotEvaluable name 1)
-unary_of (Some op) name (Err e) = Err e
-unary_of (Some op) name (Ok a) = or_faulty (unary_value op a)
+unary_of (Some op) name x = applied op x
 
 abbrev pub binary_of : Option Binary → List ℕ → Value → Value → Value
 binary_of None name x y = Err (NotEvaluable name 2)
-binary_of (Some op) name (Err e) y = Err e
-binary_of (Some op) name (Ok a) (Err e) = Err e
-binary_of (Some op) name (Ok a) (Ok b) = or_faulty (binary_value op a b)
+binary_of (Some op) name x y = applied_to_two op x y
 
 -- what a term has, by its first cell and the values of its arguments
 abbrev pub value_of : Cell → List Value → Value

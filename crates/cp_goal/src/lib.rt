@@ -3,11 +3,13 @@
 
 mod binary;
 mod builtin;
+mod error_cells;
 mod exact;
 mod fault;
 mod relation;
 mod type_test;
 mod unary;
+mod why;
 
 pub use binary::Binary;
 pub use builtin::Builtin;
@@ -15,6 +17,7 @@ pub use fault::Fault;
 pub use relation::Relation;
 pub use type_test::TypeTest;
 pub use unary::Unary;
+pub use why::Why;
 
 #[cfg(test)]
 mod tests;

@@ -1,9 +1,8 @@
 -- What asking an object of a hall does to what the hall tells.
 use Rattle.std.proofs.Common.{◌≡◌, ◌≢◌, ◌⊎◌, inl, inr, ℕ, zero, suc, ◌<◌, ◌==◌, List, [], ◌∷◌, ◌++◌, length, refl, sym, ◌∙◌, ap, subst, true, false, Bool, not, ◌&&◌, Option, Some, None, arith}
-use Rattle.std.specs.Prelude.{map, slice_get, slice_set, Result, Ok, Err}
+use Rattle.std.specs.Prelude.{map, slice_get, slice_set, Ok, Err}
 use Rattle.std.proofs.lemmas.Bool.{and_parts}
 use Rattle.std.proofs.lemmas.Bool.Decides.{eqb_tells}
-use Rattle.cp_term.specs.declared.cell.Cell.{Cell}
 use Rattle.cp_call.specs.declared.call.ObjectKind.{ObjectKind}
 use Rattle.cp_call.specs.declared.call.ObjectKind.TheVariants as kind
 use Rattle.cp_call.specs.declared.call.Call.{Call}
@@ -15,14 +14,14 @@ use Rattle.cp_call.specs.declared.asked.Asked.TheVariants as asked
 use Rattle.std.proofs.lemmas.List.Elements.{filter-append}
 use Rattle.cp_call.specs.declared.call.Reply.{Reply}
 use Rattle.cp_call.specs.declared.call.Reply.TheVariants as reply
-use Rattle.cp_call.specs.Object.{State, is_parked}
-use Rattle.cp_call.specs.History.{Limit, Legal, full_at, full, is_leave, state_after}
+use Rattle.cp_call.specs.Object.{step, is_parked}
+use Rattle.cp_call.specs.History.{Limit, Legal, full_at, is_leave}
 use Rattle.cp_call.specs.Store.{StoreView, state_of, is_still_parked, limit_of}
 use Rattle.cp_call.specs.Sound.{Object, own_entries, entry_unless_full}
 use Rattle.cp_list.specs.Lists.{IsPrefix}
-use Rattle.cp_call.specs.Asker.{EndsParked, IsFull, IsFullBy, IsStill, IsWaiting, entry_added}
+use Rattle.cp_call.specs.Asker.{IsFull, IsWaiting, entry_added}
+use Rattle.cp_call.proofs.Growing.{Legal-push}
 use Rattle.cp_call.proofs.Parking.{parked_ends}
-use Rattle.cp_call.specs.declared.refused.Refused.{Refused}
 use Rattle.cp_call.specs.declared.refused.Refused.TheVariants as refused
 use Rattle.cp_call.specs.Refusals.{IsPrepared}
 use Rattle.cp_hall.specs.declared.hall.HallRow.{HallRow}
@@ -236,3 +235,21 @@ pub gained_others : (n m : ℕ) (c : Call) (a : Asked) → n ≢ m → own_entri
 gained_others n m c (asked.Replied r) d = kept_others n m c r d
 gained_others n m c asked.StillParked d = refl
 gained_others n m c asked.NoMemory d = refl
+
+prepared_awake : (b : Bool) (l : Option Limit) (u : Unit {0}) → IsPrepared b l (Ok u) → b ≡ false
+prepared_awake true l u h = cc
+prepared_awake false l u h = refl
+
+prepared_room : (b : Bool) (l : Option Limit) (u : Unit {0}) → IsPrepared b l (Ok u) → l ≡ None
+prepared_room true l u h = cc
+prepared_room false (Some l) u h = cc
+prepared_room false None u h = refl
+
+-- the history stays legal by a call that was prepared
+pub legal_made : (v : StoreView) (n : ℕ) (c : Call) (r : Reply) (u : Unit {0}) → Legal v.kind v.opening v.history → IsPrepared (is_still_parked v n c) (limit_of v c) (Ok u) → r ≡ (step (state_of v) n c).reply
+    → Legal v.kind v.opening (v.history ++ record { caller = n; call = c; reply = r } ∷ [])
+legal_made v n c r u l h e = Legal-push v.kind v.opening v.history (record { caller = n; call = c; reply = r }) l (record {
+  replied = e;
+  awake = prepared_awake (is_still_parked v n c) (limit_of v c) u h;
+  room = prepared_room (is_still_parked v n c) (limit_of v c) u h;
+})

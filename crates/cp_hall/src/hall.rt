@@ -1,9 +1,10 @@
 ghost use Rattle.std.specs.Prelude.{◌≡◌, ◌<◌, ◌++◌, [], ◌∷◌, true, IfSome, IfOk, OnOk, OnErr, length, slice_get};
 ghost use Rattle.cp_call.specs.Object.{step, is_parked};
+ghost use Rattle.cp_call.specs.History.{Legal};
 ghost use Rattle.cp_call.specs.Store.{state_of, is_still_parked, limit_of};
 ghost use Rattle.cp_call.specs.Sound.{Object, IsKept, AreKept};
 ghost use Rattle.cp_call.specs.Asker.{entry_added, IsFullBy, IsStill};
-ghost use Rattle.cp_hall.specs.Hall.{objects_of, histories_of, ended_histories, history_at, with_more, state_now, IsAnswer, IsAnswered, IsConsistent, hall_object};
+ghost use Rattle.cp_hall.specs.Hall.{objects_of, histories_of, ended_histories, history_at, with_more, state_now, IsAnswer, IsAnswered, IsConsistent, CanEnd, hall_object};
 
 use cp_call::{
     Asked, Asker, Call, ObjectKind, ObjectName, PredEnd, PredEnds, Refused, Reply, Terms,
@@ -28,11 +29,13 @@ pub struct PlainHall {
 
 impl Model for PlainHall {
     ghost use Rattle.std.specs.Prelude.{List, map};
-    ghost use Rattle.cp_hall.specs.Hall.{HallObject, hall_object};
+    ghost use Rattle.cp_hall.specs.Hall.{HallObject, hall_object, AreLegal};
 
     ghost Value = { List HallObject };
 
     ghost view = { λ h. map hall_object h.rows.items };
+
+    ghost invariant = { λ h. AreLegal (map hall_object h.rows.items) };
 }
 
 /// Asks one object, whatever its name.
@@ -40,6 +43,7 @@ pub fn ask_one(pred: &mut Pred, caller: u32, call: &Call) -> Asked
     ensures kind { pred.new.kind ≡ pred.old.kind }
     ensures opening { pred.new.opening ≡ pred.old.opening }
     ensures history { pred.new.history ≡ pred.old.history ++ entry_added caller call.now result }
+    ensures legal { Legal pred.new.kind pred.new.opening pred.new.history }
     ensures answer { IsAnswer (is_still_parked pred.old caller call.now) (limit_of pred.old call.now) (step (state_of pred.old) caller call.now).reply result }
     ensures full { (o : Object) → o.kind ≡ pred.old.kind → o.opening ≡ pred.old.opening → IsFullBy (Some o) pred.new.history caller call.now result }
     ensures still { (o : Object) → o.kind ≡ pred.old.kind → o.opening ≡ pred.old.opening → IsStill (Some o) pred.new.history caller call.now result }
@@ -104,6 +108,7 @@ impl PlainHall {
     pub fn into_ends(self) -> Result<PredEnds, AllocError>
         ensures kept { IfOk result (AreKept (objects_of self)) }
         ensures histories { IfOk result (λ ends. ended_histories ends ≡ histories_of self) }
+        ensures can_end { CanEnd self }
     {
         let PlainHall { alloc, rows } = self;
         let mut ends = PredEnds::new(alloc);
@@ -111,6 +116,13 @@ impl PlainHall {
             ends.push(end_of(row)?)?;
         }
         Ok(ends)
+    }
+
+    /// Lets the objects go, which could have ended at this moment. It takes no memory.
+    pub fn close(self)
+        ensures { CanEnd self }
+    {
+        let PlainHall { alloc: _, rows: _ } = self;
     }
 }
 

@@ -2,8 +2,10 @@ ghost use Rattle.std.specs.Prelude.{◌≡◌, ◌-◌, [], length};
 ghost use Rattle.cp_heap.specs.State.{IsLive, IsWellFormed, state_at};
 
 mod bindings;
+mod export;
 mod import;
 mod looking;
+mod walk;
 
 use crate::bound::Bound;
 use crate::mark::Mark;

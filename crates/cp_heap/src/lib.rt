@@ -2,6 +2,7 @@
 #![tactic(auto)]
 
 mod bound;
+mod export_error;
 mod heap;
 mod look;
 mod mark;
@@ -9,6 +10,7 @@ mod reference;
 mod word;
 
 pub use bound::Bound;
+pub use export_error::ExportError;
 pub use heap::Heap;
 pub use look::Look;
 pub use mark::Mark;

@@ -64,3 +64,36 @@ fn a_binding_is_seen_and_taken_back(rt: HostRuntime) -> Result<(), Fail> {
     assert_eq!(rt; bound_and_back(&mut heap, at)?, (Some(7), None));
     Ok(())
 }
+
+/// The list of so many zeros, behind so many functors of one argument.
+fn zeros(alloc: Global, functors: u16, elements: u16) -> Result<Term, Fail> {
+    let mut cells = Cells::new(alloc);
+    for _ in 0..functors {
+        cells.push(Cell::Func(Name::of(alloc, b"f")?, 1))?;
+    }
+    for _ in 0..elements {
+        cells.push(Cell::Func(Name::of(alloc, b".")?, 2))?;
+        cells.push(Cell::Int(0))?;
+    }
+    cells.push(Cell::Atom(Name::of(alloc, b"[]")?))?;
+    Ok(Term::from_cells(cells)?)
+}
+
+/// How many cells of the term come back from a heap.
+fn size_back(alloc: Global, term: &Term) -> Result<u32, ExportError> {
+    let mut heap = Heap::new(alloc);
+    let at = heap.import(term)?;
+    Ok(heap.export(at)?.size())
+}
+
+#[test]
+fn a_term_of_4096_cells_is_exported(rt: HostRuntime) -> Result<(), Fail> {
+    let fits = zeros(rt.alloc(), 1, 2047)?;
+    assert_eq!(rt; size_back(rt.alloc(), &fits), Ok(4096));
+    let too_large = zeros(rt.alloc(), 2, 2047)?;
+    assert_eq!(rt;
+        size_back(rt.alloc(), &too_large),
+        Err(ExportError::TooLarge)
+    );
+    Ok(())
+}

@@ -1,5 +1,5 @@
 -- Quoted characters (ISO/IEC 13211-1, 6.4.2.1): escapes, and what stands between two quotes.
-use Rattle.std.specs.Prelude.{ℕ, zero, suc, ◌+◌, ◌<◌, ◌≤◌, Bool, true, false, not, ◌||◌, ◌&&◌, ◌==◌, if◌then◌else◌, List, [], ◌∷◌, ◌++◌, take, drop, encode_utf8, Option, Some, None}
+use Rattle.std.specs.Prelude.{ℕ, zero, suc, ◌+◌, Bool, not, ◌||◌, ◌&&◌, ◌==◌, if◌then◌else◌, List, [], ◌∷◌, ◌++◌, take, drop, encode_utf8}
 use Rattle.std.specs.Char.{is_digit}
 use Rattle.std.specs.Str.Parse.{digits_value}
 use lib.Utf8.{scalar}
@@ -101,37 +101,3 @@ quoted_from mark zero (c ∷ text) = elim ((part_at mark c text).sign) [
 -- what stands behind an opening quote
 abbrev pub quoted : ℕ → List ℕ → Quoted
 quoted mark text = quoted_from mark zero text
-
-abbrev pub closes : Sign → Bool
-closes signs.Closes = true
-closes signs.Misspelt = false
-closes (signs.Byte c) = false
-closes (signs.Character c) = false
-closes signs.Nothing = false
-
--- the first place at which a backslash begins no escape, where one more sign stands at a place
-abbrev pub first_bad : Option ℕ → Sign → ℕ → Option ℕ
-first_bad bad signs.Misspelt at = elim bad [ None ↦ Some at | Some place ↦ Some place ]
-first_bad bad signs.Closes at = bad
-first_bad bad (signs.Byte c) at = bad
-first_bad bad (signs.Character c) at = bad
-first_bad bad signs.Nothing at = bad
-
--- a quoted text behind so many bytes that stand for these, among them maybe a backslash that begins no escape
-abbrev pub finished : List ℕ → Option ℕ → ℕ → Quoted → Quoted
-finished bytes bad at Unended = Unended
-finished bytes None at (Closed more n) = Closed (bytes ++ more) (at + n)
-finished bytes None at (BadAt n) = BadAt (at + n)
-finished bytes (Some place) at (Closed more n) = BadAt place
-finished bytes (Some place) at (BadAt n) = BadAt place
-
--- what an escape or a quoted text takes is there
-abbrev pub IsEscapeWithin : Escape → ℕ → Type 0
-IsEscapeWithin (Bad n) len = n ≤ len
-IsEscapeWithin (Character c n) len = n ≤ len
-IsEscapeWithin Newline len = 1 ≤ len
-
-abbrev pub IsQuotedWithin : Quoted → ℕ → Type 0
-IsQuotedWithin (Closed bytes n) len = n ≤ len
-IsQuotedWithin (BadAt n) len = n < len
-IsQuotedWithin Unended len = Unit {0}

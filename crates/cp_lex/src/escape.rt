@@ -1,7 +1,8 @@
 ghost use Rattle.std.specs.Prelude.{◌≡◌, ◌+◌, ◌<◌, ◌≤◌, length, Some, None, if◌then◌else◌};
 ghost use lib.Utf8.{scalar};
 ghost use Rattle.cp_char.specs.Characters.{first, is_octal};
-ghost use Rattle.cp_lex.specs.Quoted.{by_number, by_letter, escape, is_escaped_sign, continues_octal, IsEscapeWithin};
+ghost use Rattle.cp_lex.specs.Quoted.{by_number, by_letter, escape, is_escaped_sign, continues_octal};
+ghost use Rattle.cp_lex.specs.Steps.{IsEscapeWithin};
 
 use crate::digits::{digits_len, is_digit, number_of};
 use crate::runs::begins_with;

@@ -1,5 +1,6 @@
 ghost use Rattle.std.specs.Prelude.{◌≡◌, ◌<◌, ◌≤◌, ◌^◌, ◌++◌, [], length, encode_utf8, IfOk, OnOk};
-ghost use Rattle.cp_lex.specs.Quoted.{quoted, part_at, escaped, spelled, finished, closes, first_bad, IsQuotedWithin};
+ghost use Rattle.cp_lex.specs.Quoted.{quoted, part_at, escaped, spelled};
+ghost use Rattle.cp_lex.specs.Steps.{finished, closes, first_bad, IsQuotedWithin};
 ghost use Rattle.cp_lex.specs.declared.quoted.Quoted.TheVariants.{Closed};
 
 use crate::escape::{Escape, escape_at};

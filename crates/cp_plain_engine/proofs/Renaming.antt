@@ -11,7 +11,8 @@ use Rattle.cp_term.specs.Substitution.{instance, Binding, Substitution, value_un
 use Rattle.cp_term.specs.Unification.{Disagreement, Same, Clash, Bind, bound_to, first_disagreement, disagreement, unify, unifiable_apart, UnifiesTo, same, clash, bind}
 use Rattle.cp_term.proofs.lemmas.PreorderLaws.{is_terms-take_terms, is_terms-map_renamed}
 use Rattle.cp_term.proofs.lemmas.NumberingLaws.{place-le, length-seen_after, is_terms-canon_from}
-use Rattle.cp_term.proofs.lemmas.SubstitutionLaws.{apply-append, apply-nil, apply-Int, apply-Atom, apply-Func, GivesTerms, instance-append, is_terms-instance, is_terms-apply, OfTerms}
+use Rattle.cp_term.specs.Unifier.{GivesTerms}
+use Rattle.cp_term.proofs.lemmas.SubstitutionLaws.{apply-append, apply-nil, apply-Int, apply-Atom, apply-Func, instance-append, is_terms-instance, is_terms-apply, OfTerms}
 use Rattle.cp_term.proofs.lemmas.UnificationLaws.{first_disagreement-cases, unify-equal}
 use Rattle.cp_term.proofs.lemmas.Turns.{below_next_variable, disagreement-BindsWithin, unify-UnifiesTo}
 use Rattle.cp_term.proofs.lemmas.Solved.{apply-bound, unify-IsSolved}

@@ -16,7 +16,7 @@ use Rattle.cp_call.specs.Added.{HasAdded}
 use Rattle.cp_call.specs.Sound.{Object, own_entries}
 use Rattle.cp_call.proofs.Adding.{HasAdded-asked, HasAdded-unanswered}
 use Rattle.cp_call.proofs.Growing.{append_nil}
-use Rattle.cp_shell.specs.Asked.{event_of, IsAnswer, StillWaits}
+use Rattle.cp_shell.specs.Asked.{event_of, HasAskedOnce, IsAnswer, StillWaits}
 
 pub nothing : (xs : List Item) → xs ≡ xs ++ []
 nothing [] = refl
@@ -69,3 +69,9 @@ pub added_by_copy : (os : List Object) (seen now : ℕ → List Entry) (wrote : 
     → HasAdded os seen now wrote wrote n (event_of p k a)
 added_by_copy os seen now wrote n p c k a e inside grows mine others full =
     subst (λ x. HasAdded os seen now wrote wrote n (event_of p x a)) (sym e) (added_by os seen now wrote n p c a inside grows mine others full)
+
+-- an answer adds the call once at most
+pub asked_once : (items now : List Item) (p : ℕ) (c k : Call) (a : Asked) → k ≡ c → now ≡ items ++ event_of p k a → HasAskedOnce items now p c
+asked_once items now p c k (asked.Replied r) e is = inr (r, is ∙ ap (λ x. items ++ item.Asked p x r ∷ []) e)
+asked_once items now p c k asked.StillParked e is = inl (is ∙ sym (nothing items))
+asked_once items now p c k asked.NoMemory e is = inl (is ∙ sym (nothing items))

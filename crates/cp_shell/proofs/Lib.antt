@@ -1,5 +1,6 @@
 pub mod Asking
 pub mod Advancing
+pub mod Living
 pub mod Replying
 pub mod Turning
 pub mod Staying

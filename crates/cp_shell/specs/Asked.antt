@@ -1,5 +1,5 @@
 -- What asking an object adds to the events of an engine, and what comes of it.
-use Rattle.std.specs.Prelude.{◌≡◌, ℕ, List, [], ◌∷◌, Option, Some, None}
+use Rattle.std.specs.Prelude.{◌≡◌, ◌⊎◌, ℕ, List, [], ◌∷◌, ◌++◌, Option, Some, None}
 use Rattle.cp_call.specs.declared.call.Call.{Call}
 use Rattle.cp_call.specs.declared.call.Reply.{Reply}
 use Rattle.cp_call.specs.declared.call.Entry.{Entry}
@@ -26,3 +26,7 @@ IsAnswer asked.NoMemory answer = ⊥
 abbrev pub StillWaits : Option Object → List Entry → ℕ → Call → Type 0
 StillWaits None seen n c = ⊥
 StillWaits (Some o) seen n c = IsWaiting o seen n c
+
+-- the events have gained this call with some reply, or nothing
+abbrev pub HasAskedOnce : (before now : List Item) → ℕ → Call → Type 0
+HasAskedOnce before now p c = (now ≡ before) ⊎ ((r : Reply) × (now ≡ before ++ item.Asked p c r ∷ []))

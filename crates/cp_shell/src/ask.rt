@@ -3,7 +3,7 @@ ghost use Rattle.cp_call.specs.declared.item.Item.{Item};
 ghost use Rattle.cp_call.specs.declared.item.Item.TheVariants as item;
 ghost use Rattle.cp_call.specs.declared.outcome.OutEntry.{OutEntry};
 ghost use Rattle.cp_call.specs.Added.{HasAdded, AsksForOne};
-ghost use Rattle.cp_shell.specs.Asked.{event_of, IsAnswer, StillWaits};
+ghost use Rattle.cp_shell.specs.Asked.{event_of, HasAskedOnce, IsAnswer, StillWaits};
 
 use cp_call::{Asked, Asker, Call, Item, Reply};
 use cp_list::ReservedList;
@@ -52,6 +52,7 @@ pub fn ask<A: Asker>(
     ensures added { (wrote : List OutEntry) → (added : List Item) × (items.new.items ≡ items.old.items ++ added) × HasAdded (A.objects asker.old) (A.seen asker.old number) (A.seen asker.new number) wrote wrote number added }
     ensures replied { IfOk result (λ answer. MatchOption answer (items.new.items ≡ items.old.items) (λ reply. items.new.items ≡ items.old.items ++ item.Asked object call.now reply ∷ [])) }
     ensures still { IfOk result (λ answer. answer ≡ None → StillWaits (slice_get (A.objects asker.old) object) (A.seen asker.new number object) number call.now) }
+    ensures event { HasAskedOnce items.old.items items.new.items object call.now }
     ensures others { AsksForOne number (A.objects asker.old) (A.objects asker.new) (A.serves asker.old) (A.serves asker.new) (A.seen asker.old) (A.seen asker.new) (A.looked asker.old) (A.looked asker.new) }
     ensures stays { A.stays asker.old asker.new }
 {

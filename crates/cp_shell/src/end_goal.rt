@@ -27,6 +27,7 @@ pub(crate) fn end_goal<A: Asker>(
     requires two { 2 ≤ length (A.objects asker.old) }
     requires serves { IsTrue (A.serves asker.old number) }
     ensures added { (wrote : List OutEntry) → (added : List Item) × (items.new.items ≡ items.old.items ++ added) × HasAdded (A.objects asker.old) (A.seen asker.old number) (A.seen asker.new number) wrote wrote number added }
+    ensures life { (rule : life.Rule) → life.last_stage rule life.Idle items.old.items ≡ life.Ends goal end → life.IsWorkersLife rule items.old.items → life.IsWorkersLife rule items.new.items }
     ensures turned { IfOk result (λ turn. (rule : life.Rule) (continuation : List Input → Next) (failed : Bool) → life.last_stage rule life.Idle items.old.items ≡ life.Ends goal end → HasTurned rule (A.objects asker.old) continuation failed items.old.items items.new.items (A.seen asker.new number) number turn.stage turn.parked) }
     ensures others { AsksForOne number (A.objects asker.old) (A.objects asker.new) (A.serves asker.old) (A.serves asker.new) (A.seen asker.old) (A.seen asker.new) (A.looked asker.old) (A.looked asker.new) }
     ensures stays { A.stays asker.old asker.new }

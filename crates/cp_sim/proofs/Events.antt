@@ -55,3 +55,15 @@ pub driven_as : {Code : Type 0} (asks : Code → life.Rule) (k k0 : Code) (os os
     → k ≡ k0 → os ≡ os0 → IsDriven (asks k) os continuation failed items seen wrote n stage → IsDriven (asks k0) os0 continuation failed items seen wrote n stage
 driven_as asks k k0 os os0 continuation failed items seen wrote n stage ek eo d =
     subst (λ x. IsDriven (asks x) os0 continuation failed items seen wrote n stage) ek (subst (λ x. IsDriven (asks k) x continuation failed items seen wrote n stage) eo d)
+
+-- the same after an event that memory may have stopped
+pub running_on : (rule : life.Rule) (objects : List Object) (items now_items added : List Item) (seen now : ℕ → List Entry) (wrote wrote_now : List OutEntry) (n : ℕ)
+    → IsRunning rule objects seen wrote n items
+    → (life.IsWorkersLife rule items → life.IsWorkersLife rule now_items)
+    → now_items ≡ items ++ added
+    → HasAdded objects seen now wrote wrote_now n added
+    → IsRunning rule objects now wrote_now n now_items
+running_on rule objects items now_items added seen now wrote wrote_now n is lives more has = record {
+  life = lives is.life;
+  agrees = subst (λ x. Agrees objects now wrote_now n x) (sym more) (Agrees-added objects seen now wrote wrote_now n items added is.agrees has);
+}

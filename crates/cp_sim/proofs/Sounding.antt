@@ -14,14 +14,15 @@ use Rattle.cp_call.specs.declared.outcome.PredEnd.{PredEnd}
 use Rattle.cp_call.specs.declared.outcome.Outcome.{Outcome}
 use Rattle.cp_call.specs.Life.{Rule}
 use Rattle.cp_call.specs.Running.{IsRunning}
-use Rattle.cp_call.specs.Sound.{Object, Setup, own_entries, own_writes, has_callers, is_engine, stays_failed, AreTied, AllRest, AreKept, AgreeFrom, Sound, EndsParkedOn, is_parked_on, Agrees}
+use Rattle.cp_call.specs.Sound.{Object, Setup, own_entries, own_writes, has_callers, is_engine, stays_failed, AreTied, AllRest, AreKept, AgreeFrom, Going, Sound, EndsParkedOn, is_parked_on, Agrees}
 use Rattle.cp_call.specs.Sound as sound
 use Rattle.cp_call.proofs.Running.{IsRunning-others, callers-grown}
-use Rattle.cp_hall.specs.Hall.{HallObject, objects_of, histories_of, ended_histories, history_at}
-use Rattle.cp_sim.specs.Ended.{HasEnded, IsOfOne}
+use Rattle.cp_out.specs.Port.{Records}
+use Rattle.cp_hall.specs.Hall.{HallObject, objects_of, histories_of, ended_histories, history_at, CanEnd}
+use Rattle.cp_sim.specs.Ended.{HasGone, HasEnded, IsOfOne, HasRunTo}
 
 -- the history of each object at the end is that of the hall
-ends_at : (preds : List PredEnd) (hall : List HallObject) → ended_histories preds ≡ histories_of hall → (q : ℕ) → sound.history_at preds q ≡ history_at hall q
+pub ends_at : (preds : List PredEnd) (hall : List HallObject) → ended_histories preds ≡ histories_of hall → (q : ℕ) → sound.history_at preds q ≡ history_at hall q
 ends_at [] [] e q = refl
 ends_at [] (o ∷ hall) e q = cc
 ends_at (x ∷ preds) [] e q = cc
@@ -83,37 +84,58 @@ one_rests preds items p engines e last parked = subst (λ x. AllRest preds x) (s
 one_engine : (items : List Item) (p : ℕ) (engines : List EngineEnd) (f : ℕ → Bool) → engines ≡ record { number = 1; items = items; stand = stand.Parked p } ∷ [] → f 1 ≡ true → f (length engines) ≡ true
 one_engine items p engines f e h = subst (λ (x : List EngineEnd). f (length x) ≡ true) (sym e) h
 
--- all that the run of engine 1 keeps makes its outcome sound
-pub one_is_sound : (rule : Rule) (os : List Object) (hall : List HallObject) (port : List OutEntry) (steps p : ℕ) (items : List Item) (o : Outcome)
-    → HasEnded steps p items hall port o
-    → objects_of hall ≡ os
-    → IsRunning rule os (history_at hall) (own_writes 1 port) 1 items
-    → ((m q : ℕ) → m ≢ 1 → own_entries m (history_at hall q) ≡ [])
-    → ((m : ℕ) → m ≢ 1 → own_writes m port ≡ [])
-    → stays_failed port ≡ true
-    → Sound (record { rule = rule; objects = os; served = None }) o
-one_is_sound rule os hall port steps p items o ended objects running own own_port failed = record {
-  going = record {
-    objects = subst (λ x. AreKept x o.preds) objects ended.kept;
-    tied = record {
-      engines = one_tied rule os o.preds o.port items p o.engines ended.engine here;
-      callers = one_engine items p o.engines (λ n. list_all (has_callers n) o.preds) ended.engine (all_callers o.preds (λ m q d. ap (own_entries m) (at q) ∙ own m q d));
-      writers = one_engine items p o.engines (λ n. list_all (λ (w : OutEntry). is_engine n w.engine) o.port) ended.engine (all_writers o.port (λ m d. ap (own_writes m) ended.port_is ∙ own_port m d));
-      failed = subst (λ x. stays_failed x ≡ true) (sym ended.port_is) failed;
-    };
+-- all that the run of engine 1 keeps
+pub record KeptByOne (rule : Rule) (os : List Object) (hall : List HallObject) (port : List OutEntry) (items : List Item) : Type 0 where
+  pub objects : objects_of hall ≡ os
+  pub running : IsRunning rule os (history_at hall) (own_writes 1 port) 1 items
+  pub own : (m q : ℕ) → m ≢ 1 → own_entries m (history_at hall q) ≡ []
+  pub own_port : (m : ℕ) → m ≢ 1 → own_writes m port ≡ []
+  pub failed : stays_failed port ≡ true
+
+-- engines, objects and port belong together
+one_is_going : (rule : Rule) (os : List Object) (hall : List HallObject) (port : List OutEntry) (steps p : ℕ) (items : List Item) (o : Outcome)
+    → HasGone steps p items hall port o → KeptByOne rule os hall port items → Going (record { rule = rule; objects = os; served = None }) o
+one_is_going rule os hall port steps p items o gone kept = record {
+  objects = subst (λ x. AreKept x o.preds) kept.objects gone.kept;
+  tied = record {
+    engines = one_tied rule os o.preds o.port items p o.engines gone.engine here;
+    callers = one_engine items p o.engines (λ n. list_all (has_callers n) o.preds) gone.engine (all_callers o.preds (λ m q d. ap (own_entries m) (at q) ∙ kept.own m q d));
+    writers = one_engine items p o.engines (λ n. list_all (λ (w : OutEntry). is_engine n w.engine) o.port) gone.engine (all_writers o.port (λ m d. ap (own_writes m) gone.port_is ∙ kept.own_port m d));
+    failed = subst (λ x. stays_failed x ≡ true) (sym gone.port_is) kept.failed;
   };
-  rest = one_rests o.preds items p o.engines ended.engine ended.last ended.parked;
 }
   where
     at : (q : ℕ) → sound.history_at o.preds q ≡ history_at hall q
-    at = ends_at o.preds hall ended.histories
+    at = ends_at o.preds hall gone.histories
 
     here : IsRunning rule os (sound.history_at o.preds) (own_writes 1 o.port) 1 items
-    here = IsRunning-others rule os (history_at hall) (sound.history_at o.preds) (own_writes 1 port) (own_writes 1 o.port) 1 items running
-        (λ q. same_prefix (history_at hall q) (sound.history_at o.preds q) (at q)) (λ q. ap (own_entries 1) (at q)) (ap (own_writes 1) ended.port_is)
+    here = IsRunning-others rule os (history_at hall) (sound.history_at o.preds) (own_writes 1 port) (own_writes 1 o.port) 1 items kept.running
+        (λ q. same_prefix (history_at hall q) (sound.history_at o.preds q) (at q)) (λ q. ap (own_entries 1) (at q)) (ap (own_writes 1) gone.port_is)
+
+-- the outcome of an engine that rests is sound
+pub one_is_sound : (rule : Rule) (os : List Object) (hall : List HallObject) (port : List OutEntry) (steps p : ℕ) (items : List Item) (o : Outcome)
+    → HasEnded steps p items hall port o → KeptByOne rule os hall port items → Sound (record { rule = rule; objects = os; served = None }) o
+one_is_sound rule os hall port steps p items o ended kept = record {
+  going = one_is_going rule os hall port steps p items o ended.gone kept;
+  rest = one_rests o.preds items p o.engines ended.gone.engine ended.last ended.parked;
+}
+
+-- wherever memory stops a run, it has come to an outcome
+pub one_has_run : {S : Type 0} (held : S → Option (List ℕ)) (faults : S → ℕ) (first sink : S) (rule : Rule) (os : List Object) (hall : List HallObject) (port : List OutEntry) (steps : ℕ) (items : List Item)
+    → CanEnd hall → KeptByOne rule os hall port items → Records held faults first port sink
+    → (o : Outcome) × HasRunTo held faults (record { rule = rule; objects = os; served = None }) steps first sink o
+one_has_run held faults first sink rule os hall port steps items can kept records =
+    let o : Outcome = record { steps = steps; engines = record { number = 1; items = items; stand = stand.Parked 0 } ∷ []; preds = can.ends; port = port } in (
+      o,
+      record {
+        going = one_is_going rule os hall port steps 0 items o (record { steps_are = refl; engine = refl; kept = can.kept; histories = can.histories; port_is = refl }) kept;
+        one = record { steps_are = refl; items = items; object = 0; engine = refl };
+        records = records;
+      },
+    )
 
 pub of_one : (steps p : ℕ) (items : List Item) (hall : List HallObject) (port : List OutEntry) (o : Outcome) → HasEnded steps p items hall port o → IsOfOne steps o
-of_one steps p items hall port o ended = record { steps_are = ended.steps_are; items = items; object = p; engine = ended.engine }
+of_one steps p items hall port o ended = record { steps_are = ended.gone.steps_are; items = items; object = p; engine = ended.gone.engine }
 
 -- what holds of an outcome that is there follows from what else holds of it
 pub if_some : {X : Type 0} (r : Option X) {A B : X → Type 0} → IfSome r A → ((x : X) → A x → B x) → IfSome r B

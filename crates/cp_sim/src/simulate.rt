@@ -2,7 +2,8 @@ ghost use Rattle.std.specs.Prelude.{◌≡◌, ◌≤◌, ℕ, [], length, None,
 ghost use Rattle.cp_call.specs.Sound.{Sound};
 ghost use Rattle.cp_hall.specs.Hall.{objects_of, history_at};
 ghost use Rattle.cp_out.specs.Port.{Records};
-ghost use Rattle.cp_sim.specs.Ended.{IsOfOne};
+ghost use Rattle.cp_call.specs.declared.outcome.Outcome.{Outcome};
+ghost use Rattle.cp_sim.specs.Ended.{IsOfOne, HasRunTo};
 
 use crate::driving::drive;
 use crate::end::{SimEnd, end, stop};
@@ -14,7 +15,7 @@ use cp_shell::ItemRoom;
 use std::alloc::Global;
 
 /// Runs one engine over the objects of a hall that nobody has asked yet, until it is parked. The outcome names this
-/// budget of steps; it is missing only for want of memory.
+/// budget of steps; it is missing only for want of memory, and then too the sink has what a run wrote.
 pub fn simulate_one<M: Machine, S: Sink>(
     alloc: Global,
     steps: u32,
@@ -28,6 +29,7 @@ pub fn simulate_one<M: Machine, S: Sink>(
     ensures sound { IfSome result.outcome (Sound (record { rule = M.Rule.asks (M.code machine); objects = objects_of hall; served = None })) }
     ensures engine { IfSome result.outcome (IsOfOne steps) }
     ensures records { IfSome result.outcome (λ o. Records S.held S.faults sink o.port result.sink) }
+    ensures ran { (o : Outcome) × HasRunTo S.held S.faults (record { rule = M.Rule.asks (M.code machine); objects = objects_of hall; served = None }) steps sink result.sink o }
 {
     let mut machine = machine;
     let mut hall = hall;

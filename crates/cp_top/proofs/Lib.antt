@@ -1,3 +1,4 @@
 pub mod CommandWords
 pub mod PlainObjects
 pub mod Telling
+pub mod Going

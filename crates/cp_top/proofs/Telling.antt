@@ -1,15 +1,16 @@
 -- What was written, by what the port and the last line wrote.
-use Rattle.std.proofs.Common.{◌≡◌, ℕ, zero, suc, ◌+◌, ◌<◌, ◌≤◌, List, [], ◌∷◌, ◌++◌, length, take, refl, sym, ◌∙◌, ap, subst, append_assoc, true, false, Option, Some, None, arith}
+use Rattle.std.proofs.Common.{◌≡◌, ℕ, zero, suc, ◌+◌, ◌<◌, ◌≤◌, List, [], ◌∷◌, ◌++◌, length, take, refl, sym, ◌∙◌, ap, subst, append_assoc, Bool, true, false, Option, Some, None, arith}
 use Rattle.std.specs.Prelude.{min, ◌^◌, ◌-◌}
+use Rattle.std.proofs.lemmas.List.{append-nil}
 use Rattle.std.proofs.Math.Seq.{take-append_seam, take-append-add}
 use Rattle.cp_list.specs.Lists.{IsPrefix}
 use Rattle.cp_io.specs.Cause.{Rose}
 use Rattle.cp_call.specs.declared.outcome.OutEntry.{OutEntry}
 use Rattle.cp_call.specs.declared.outcome.Outcome.{Outcome}
-use Rattle.cp_out.specs.Port.{GrewTo, HasGrown, any_failed, pieces, written, broken_piece}
+use Rattle.cp_out.specs.Port.{Records, GrewTo, HasGrown, any_failed, pieces, written, broken_piece}
 use Rattle.cp_out.proofs.PortLaws.{grown-all, grown-prefix}
 use Rattle.cp_top.specs.Ending.{Ending, ending_of}
-use Rattle.cp_top.specs.Written.{IsWritten, IsRunStatus, last_line, IsTold}
+use Rattle.cp_top.specs.Written.{IsWritten, IsRunStatus, last_line, IsTold, IsCutAt}
 
 -- a beginning of what was to be written was written, where the count rose
 begun : (before bytes now : List ℕ) (count : ℕ) → IsPrefix now (before ++ bytes) → IsPrefix before now → 0 < count → IsWritten (Some before) bytes count (Some now)
@@ -70,4 +71,27 @@ told_whole o e status outcome before now held count ending is failed g s w = rec
   outcome_is = is;
   status_is = subst (λ x. IsRunStatus x count status) ending s;
   written = subst (λ x. IsWritten before (pieces o.port ++ last_line x) count held) ending (whole_written before o.port now e.line count held failed g w);
+}
+
+whole : (before : Option (List ℕ)) (port : List OutEntry) (now : Option (List ℕ)) → any_failed port ≡ false → GrewTo before port now → IsWritten before (pieces port) 0 now
+whole None port now h g = g
+whole (Some before) port None h g = absurd g
+whole (Some before) port (Some now) h g = ap (λ x. Some x) (grown-all before port now h g)
+
+-- what a port has written, whether it failed or not
+pub port_written : {S : Type 0} (held : S → Option (List ℕ)) (faults : S → ℕ) (first : S) (port : List OutEntry) (sink : S) → Records held faults first port sink → faults first ≡ 0 → IsWritten (held first) (pieces port) (faults sink) (held sink)
+port_written held faults first port sink records none = by_test (any_failed port) refl
+  where
+    by_test : (b : Bool) → any_failed port ≡ b → IsWritten (held first) (pieces port) (faults sink) (held sink)
+    by_test true e = subst (λ bytes. IsWritten (held first) bytes (faults sink) (held sink)) (append-nil (pieces port))
+        (failed_written (held first) port (held sink) (faults sink) [] records.grew (some_count (faults first) (faults sink) none (records.caused e)))
+    by_test false e = subst (λ n. IsWritten (held first) (pieces port) n (held sink)) (sym (records.kept e ∙ none)) (whole (held first) port (held sink) e records.grew)
+
+-- nothing was written more than what the port wrote
+pub cut_at : {S : Type 0} (held : S → Option (List ℕ)) (faults : S → ℕ) (first : S) (o : Outcome) (sink : S) (status : ℕ) (outcome : Option Outcome) (now : S)
+    → Records held faults first o.port sink → faults first ≡ 0 → status ≡ 70 → outcome ≡ None → now ≡ sink → IsCutAt o status outcome (faults now) (held first) (held now)
+cut_at held faults first o sink status outcome now records none s e is = record {
+  status_is = s;
+  none = e;
+  written = subst (λ x. IsWritten (held first) (pieces o.port) (faults x) (held x)) (sym is) (port_written held faults first o.port sink records none);
 }

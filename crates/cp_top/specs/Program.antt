@@ -4,7 +4,7 @@ use Rattle.cp_call.specs.declared.call.ObjectKind.TheVariants as kind
 use Rattle.cp_call.specs.declared.call.ObjectName.TheVariants as name
 use Rattle.cp_call.specs.declared.outcome.Outcome.{Outcome}
 use Rattle.cp_call.specs.Setup.{SharedPred, ProgramParts, main_of, object_of, setup_of}
-use Rattle.cp_call.specs.Sound.{Object, objects_with, Sound}
+use Rattle.cp_call.specs.Sound.{Object, objects_with, Going, Sound}
 use Rattle.cp_hall.specs.Hall.{HallObject}
 use Rattle.cp_plain.specs.declared.program.Concurrent.{Concurrent}
 use Rattle.cp_plain.specs.declared.program.PlainProgram.{PlainProgram}
@@ -45,4 +45,9 @@ fresh_hall p = fresh_with (p.module) p.concurrent
 -- An outcome of a plain file's program: it is sound for the program with a budget of 100,000 steps and one engine.
 pub record IsPlainRun (p : PlainProgram) (o : Outcome) : Type 0 where
   pub sound : Sound (setup_of (plain_asks p 100000) (parts_of p) false) o
+  pub one : IsOfOne 100000 o
+
+-- An outcome to which a run of the program has come, be it at its end or where memory stopped it.
+pub record IsPlainGoing (p : PlainProgram) (o : Outcome) : Type 0 where
+  pub going : Going (setup_of (plain_asks p 100000) (parts_of p) false) o
   pub one : IsOfOne 100000 o

@@ -10,7 +10,7 @@ use Rattle.cp_plain.specs.Program.{IsPlainFile, IsNoPlainFile}
 use Rattle.cp_top.specs.Words.{IsSim}
 use Rattle.cp_out.specs.Port.{pieces}
 use Rattle.cp_top.specs.Ending.{Ending, ending_of}
-use Rattle.cp_top.specs.Program.{IsPlainRun}
+use Rattle.cp_top.specs.Program.{IsPlainRun, IsPlainGoing}
 
 -- Where the sink tells what it holds, it has grown by these bytes while its count of faults is 0, and by a beginning of
 -- them else.
@@ -48,9 +48,24 @@ pub record IsRefusal (with_status : ℕ) (line : List ℕ) (status : ℕ) (outco
   pub none : outcome ≡ None
   pub written : IsWritten before line count held
 
--- memory was short
-abbrev pub IsShort : (status : ℕ) → Option Outcome → Type 0
-IsShort status outcome = (status ≡ 70) × (outcome ≡ None)
+-- Memory was short before anything was run: nothing was written.
+pub record IsShort (status : ℕ) (outcome : Option Outcome) (count : ℕ) (before held : Option (List ℕ)) : Type 0 where
+  pub status_is : status ≡ 70
+  pub none : outcome ≡ None
+  pub faultless : count ≡ 0
+  pub untouched : held ≡ before
+
+-- Memory stopped a run that had come to this, or the telling of it: what its port wrote was written, and nothing more.
+pub record IsCutAt (o : Outcome) (status : ℕ) (outcome : Option Outcome) (count : ℕ) (before held : Option (List ℕ)) : Type 0 where
+  pub status_is : status ≡ 70
+  pub none : outcome ≡ None
+  pub written : IsWritten before (pieces o.port) count held
+
+-- The same of a run of the program.
+pub record IsCut (p : PlainProgram) (status : ℕ) (outcome : Option Outcome) (count : ℕ) (before held : Option (List ℕ)) : Type 0 where
+  pub ran : Outcome
+  pub is_going : IsPlainGoing p ran
+  pub is_cut : IsCutAt ran status outcome count before held
 
 -- a run that was told
 pub record IsRun (p : PlainProgram) (status : ℕ) (outcome : Option Outcome) (count : ℕ) (before held : Option (List ℕ)) : Type 0 where
@@ -67,19 +82,19 @@ file_line name why = codes "{FILE: " ++ name ++ codes ": " ++ why ++ codes "}\n"
 abbrev pub refused_line : List ℕ → List ℕ
 refused_line name = codes "{REFUSED: " ++ name ++ codes ":1: NotYetRead}\n"
 
--- The end of a file's text: it is no plain file, or it is that of a program, which was run.
+-- The end of a file's text: it is no plain file, or it is that of a program, which was run, to its end unless memory was short.
 abbrev pub IsTextEnd : (name text : List ℕ) → (status : ℕ) → Option Outcome → (count : ℕ) → (before held : Option (List ℕ)) → Type 0
 IsTextEnd name text status outcome count before held =
-    IsShort status outcome
+    IsShort status outcome count before held
     ⊎ (IsNoPlainFile text × IsRefusal 65 (refused_line name) status outcome count before held)
-    ⊎ ((p : PlainProgram) × IsPlainFile text p × IsRun p status outcome count before held)
+    ⊎ ((p : PlainProgram) × IsPlainFile text p × (IsRun p status outcome count before held ⊎ IsCut p status outcome count before held))
 
 -- the end of what a fetch gave: a file has at most 1,048,576 bytes
 abbrev pub IsFileEnd : (name : List ℕ) → Fetched → (status : ℕ) → Option Outcome → (count : ℕ) → (before held : Option (List ℕ)) → Type 0
-IsFileEnd name fetched.Missing status outcome count before held = IsShort status outcome ⊎ IsRefusal 66 (file_line name (codes "missing")) status outcome count before held
-IsFileEnd name fetched.Fault status outcome count before held = IsShort status outcome ⊎ IsRefusal 66 (file_line name (codes "fault")) status outcome count before held
+IsFileEnd name fetched.Missing status outcome count before held = IsShort status outcome count before held ⊎ IsRefusal 66 (file_line name (codes "missing")) status outcome count before held
+IsFileEnd name fetched.Fault status outcome count before held = IsShort status outcome count before held ⊎ IsRefusal 66 (file_line name (codes "fault")) status outcome count before held
 IsFileEnd name (fetched.Bytes text) status outcome count before held = elim (nat_lt 1048576 (length text)) [
-  | true ↦ IsShort status outcome ⊎ IsRefusal 66 (file_line name (codes "too big")) status outcome count before held
+  | true ↦ IsShort status outcome count before held ⊎ IsRefusal 66 (file_line name (codes "too big")) status outcome count before held
   | false ↦ IsTextEnd name text status outcome count before held
 ]
 
@@ -94,7 +109,7 @@ pub record IsFetched (tree : Option Tree) (name : List ℕ) (faults faults_now m
 -- The words are no command of this call, and nothing is done.
 pub record IsUsageEnd (words : List (List ℕ)) (status : ℕ) (outcome : Option Outcome) (count : ℕ) (before held : Option (List ℕ)) : Type 0 where
   pub none : (name : List ℕ) → IsSim words name → ⊥
-  pub ending : IsShort status outcome ⊎ IsRefusal 64 usage_line status outcome count before held
+  pub ending : IsShort status outcome count before held ⊎ IsRefusal 64 usage_line status outcome count before held
 
 -- The words are `sim` and the name of a file, which was fetched once.
 pub record IsSimEnd (words : List (List ℕ)) (tree : Option Tree) (faults faults_now misses misses_now status : ℕ) (outcome : Option Outcome) (count : ℕ) (before held : Option (List ℕ)) : Type 0 where
@@ -107,6 +122,6 @@ pub record IsSimEnd (words : List (List ℕ)) (tree : Option Tree) (faults fault
 -- how the top call ends
 abbrev pub IsTopEnd : (words : List (List ℕ)) → Option Tree → (faults faults_now misses misses_now status : ℕ) → Option Outcome → (count : ℕ) → (before held : Option (List ℕ)) → Type 0
 IsTopEnd words tree faults faults_now misses misses_now status outcome count before held =
-    IsShort status outcome
+    IsShort status outcome count before held
     ⊎ IsUsageEnd words status outcome count before held
     ⊎ IsSimEnd words tree faults faults_now misses misses_now status outcome count before held

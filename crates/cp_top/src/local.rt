@@ -29,7 +29,7 @@ pub struct LocalEnd<F: Files, S: Sink> {
 /// Writes a line, if there was memory for it, and ends with the status.
 fn refuse<S: Sink>(status: u8, line: Result<Vec<u8>, AllocError>, out: S) -> Told<S>
     requires { S.faults out ≡ 0 }
-    ensures { (wanted : List ℕ) → IfOk line (λ l. l.items ≡ wanted) → IsShort result.status result.outcome ⊎ IsRefusal status wanted result.status result.outcome (S.faults result.out) (S.held out) (S.held result.out) }
+    ensures { (wanted : List ℕ) → IfOk line (λ l. l.items ≡ wanted) → IsShort result.status result.outcome (S.faults result.out) (S.held out) (S.held result.out) ⊎ IsRefusal status wanted result.status result.outcome (S.faults result.out) (S.held out) (S.held result.out) }
 {
     match line {
         Err(_) => short(out),

@@ -1,7 +1,8 @@
-ghost use Rattle.std.specs.Prelude.{◌≡◌, ◌++◌, [], ◌∷◌, IfOk, IfSome, OnOk, IsTrue};
+ghost use Rattle.std.specs.Prelude.{◌≡◌, ◌⊎◌, ◌++◌, [], ◌∷◌, IfOk, IfSome, OnOk, IsTrue};
 ghost use Rattle.cp_call.specs.Setup.{main_of};
+ghost use Rattle.cp_call.specs.declared.outcome.Outcome.{Outcome};
 ghost use Rattle.cp_out.specs.Port.{Records};
-ghost use Rattle.cp_top.specs.Program.{fresh_hall, fresh_lists, fresh_pred, IsPlainRun};
+ghost use Rattle.cp_top.specs.Program.{fresh_hall, fresh_lists, fresh_pred, IsPlainRun, IsPlainGoing};
 
 use cp_call::{ObjectKind, ObjectName, Terms};
 use cp_hall::PlainHall;
@@ -85,10 +86,11 @@ fn hall_of(alloc: Global, program: &PlainProgram) -> Result<PlainHall, AllocErro
     Ok(hall)
 }
 
-/// Runs the program on one engine.
+/// Runs the program on one engine. Where memory is short, the sink is untouched or has what a run wrote.
 pub(crate) fn run<S: Sink>(alloc: Global, program: PlainProgram, out: S) -> SimEnd<S>
     ensures run { IfSome result.outcome (IsPlainRun program) }
     ensures records { IfSome result.outcome (λ o. Records S.held S.faults out o.port result.sink) }
+    ensures ran { (result.sink ≡ out) ⊎ ((o : Outcome) × IsPlainGoing program o × Records S.held S.faults out o.port result.sink) }
 {
     match hall_of(alloc, &program) {
         Err(_) => SimEnd {

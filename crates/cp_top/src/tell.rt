@@ -1,7 +1,7 @@
 ghost use Rattle.std.specs.Prelude.{◌≡◌, ◌⊎◌, true, Some, None, IfSome};
 ghost use Rattle.cp_out.specs.Port.{Records, any_failed};
 ghost use Rattle.cp_top.specs.Ending.{shown};
-ghost use Rattle.cp_top.specs.Written.{IsRunStatus, IsWritten, IsTold, IsShort, IsRun};
+ghost use Rattle.cp_top.specs.Written.{IsRunStatus, IsWritten, IsTold, IsShort, IsCut, IsCutAt, IsRun};
 
 use crate::ending::{RunEnd, end_of};
 use crate::program::run;
@@ -31,7 +31,8 @@ fn has_failed(port: &OutEntries) -> bool
 
 /// Memory was short.
 pub(crate) fn short<S: Sink>(out: S) -> Told<S>
-    ensures short { IsShort result.status result.outcome }
+    ensures status { result.status ≡ 70 }
+    ensures none { result.outcome ≡ None }
     ensures out { result.out ≡ out }
 {
     Told {
@@ -61,7 +62,7 @@ fn tell_line<S: Sink>(outcome: Outcome, end: RunEnd, out: S) -> Told<S>
 /// Tells a run, whose writes stand in the outcome's port, on its sink.
 fn tell<S: Sink>(alloc: Global, outcome: Outcome, out: S) -> Told<S>
     requires { (first : S) × (S.faults first ≡ 0) × Records S.held S.faults first outcome.port out }
-    ensures { (first : S) → S.faults first ≡ 0 → Records S.held S.faults first outcome.port out → IsShort result.status result.outcome ⊎ IsTold outcome result.status result.outcome (S.faults result.out) (S.held first) (S.held result.out) }
+    ensures { (first : S) → S.faults first ≡ 0 → Records S.held S.faults first outcome.port out → IsCutAt outcome result.status result.outcome (S.faults result.out) (S.held first) (S.held result.out) ⊎ IsTold outcome result.status result.outcome (S.faults result.out) (S.held first) (S.held result.out) }
 {
     if has_failed(&outcome.port) {
         return Told {
@@ -79,7 +80,7 @@ fn tell<S: Sink>(alloc: Global, outcome: Outcome, out: S) -> Told<S>
 /// Runs a plain file's program and tells the run.
 pub(crate) fn run_and_tell<S: Sink>(alloc: Global, program: PlainProgram, out: S) -> Told<S>
     requires { S.faults out ≡ 0 }
-    ensures { IsShort result.status result.outcome ⊎ IsRun program result.status result.outcome (S.faults result.out) (S.held out) (S.held result.out) }
+    ensures { IsShort result.status result.outcome (S.faults result.out) (S.held out) (S.held result.out) ⊎ IsRun program result.status result.outcome (S.faults result.out) (S.held out) (S.held result.out) ⊎ IsCut program result.status result.outcome (S.faults result.out) (S.held out) (S.held result.out) }
 {
     let SimEnd { outcome, sink } = run(alloc, program, out);
     match outcome {

@@ -20,6 +20,7 @@ impl Heap {
         requires apart { occurs (number_of (term self.old variable.at)) (instance_at self.old to.at) ≡ false }
         requires older { (m : ℕ) → instance_at self.old to.at ≡ VarCell m ∷ [] → m < number_of (term self.old variable.at) }
         ensures bound { OnOk result (substitution self.new ≡ substitution self.old ++ (record { var = number_of (term self.old variable.at); term = instance_at self.old to.at }) ∷ []) }
+        ensures pushed { OnOk result (IsEnd self.old to.at → self.new.trail ≡ self.old.trail ++ (record { variable = number_of (term self.old variable.at); at = to.at }) ∷ []) }
         ensures kept { OnOk result (self.new ≡ record self.old { trail = self.new.trail }) }
         ensures grown { OnOk result (Extends self.old self.new) }
         ensures err { OnErr result (self.new ≡ self.old) }
@@ -58,6 +59,7 @@ impl Heap {
         ensures live { result < length self.now.terms }
         ensures same { apply (substitution self.now) (term self.now result) ≡ apply (substitution self.now) (term self.now at) }
         ensures end { IsEnd self.now result }
+        ensures stays { IsEnd self.now at → result ≡ at }
     {
         let mut end = at;
         loop {

@@ -29,6 +29,7 @@ impl Heap {
         requires { at.at < length self.now.terms }
         ensures term { term self.now at.at ≡ word_term self.now.names self.now.terms result }
         ensures placed { IsPlaced (length self.now.names) self.now.variables at.at result }
+        ensures one_term { is_terms 1 (instance_at self.now at.at) ≡ true }
     {
         self.words[at.at as usize]
     }

@@ -19,19 +19,16 @@ use Rattle.cp_lex.specs.declared.before.Before.{Before}
 use Rattle.cp_lex.specs.declared.start.Start.{Start}
 use Rattle.cp_lex.specs.declared.start.Start.TheVariants.{Layout, LineComment, BlockComment, SmallLetter, CapitalLetter, Digit, ClauseEnd, Symbols, Solo, WordQuote, TextQuote, Bracket, Nothing}
 use Rattle.cp_lex.specs.declared.piece.Piece.{Piece}
-use Rattle.cp_lex.specs.declared.piece.Piece.TheVariants.{Blank, Token, Refused}
+use Rattle.cp_lex.specs.declared.piece.Piece.TheVariants.{Token, Refused}
 use Rattle.cp_lex.specs.declared.escape.Escape.{Escape}
 use Rattle.cp_lex.specs.declared.escape.Escape.TheVariants.{Bad, Character, Newline}
 use Rattle.cp_lex.specs.declared.quoted.Quoted.{Quoted}
 use Rattle.cp_lex.specs.declared.quoted.Quoted.TheVariants.{Closed, BadAt, Unended}
-use Rattle.cp_lex.specs.Quoted.{by_number, is_escaped_sign, by_letter, continues_octal, escape, quoted, IsEscapeWithin, IsQuotedWithin}
+use Rattle.cp_lex.specs.Quoted.{by_number, is_escaped_sign, by_letter, continues_octal, escape, quoted}
+use Rattle.cp_lex.specs.Steps.{IsEscapeWithin, IsQuotedWithin}
 use Rattle.cp_lex.specs.Lexical.{is_bracket, sign, start, goes_on, past_comment, comment, quoted_piece, is_wide, integer, begins_fraction, decimal, radix, escaped_character, quote_character, decoded_character, plain_character, character, number, piece_from, piece}
+use Rattle.cp_lex.specs.Laws.{IsInside}
 use Rattle.cp_lex.proofs.lemmas.QuotedLaws.{quoted-within}
-
-abbrev pub IsInside : Piece → ℕ → Type 0
-IsInside (Blank n) len = (0 < n) × (n ≤ len)
-IsInside (Token kind n) len = (0 < n) × (n ≤ len)
-IsInside (Refused why n) len = n ≤ len
 
 -- a text that begins with two characters has two
 pub two : (a b : ℕ) (t : List ℕ) → starts_with nat_eq t (a ∷ b ∷ []) ≡ true → 2 ≤ length t
@@ -47,7 +44,7 @@ run-within : (test : ℕ → Bool) (t : List ℕ) → run test t ≤ length t
 run-within test t = prefix_len-le-length test t
 
 -- what the first character is, by what it begins
-abbrev Begins : Start → ℕ → List ℕ → Type 0
+abbrev pub Begins : Start → ℕ → List ℕ → Type 0
 Begins Layout c rest = is_layout c ≡ true
 Begins LineComment c rest = (c ∈ "%") ≡ true
 Begins BlockComment c rest = begins "/*" (c ∷ rest) ≡ true
@@ -55,7 +52,7 @@ Begins SmallLetter c rest = is_ascii_lowercase c ≡ true
 Begins CapitalLetter c rest = (is_ascii_uppercase c || c ∈ "_") ≡ true
 Begins Digit c rest = is_digit c 10 ≡ true
 Begins Symbols c rest = is_symbol c ≡ true
-Begins ClauseEnd c rest = Unit {0}
+Begins ClauseEnd c rest = (c ∈ "." && ends_clause rest) ≡ true
 Begins Solo c rest = Unit {0}
 Begins WordQuote c rest = Unit {0}
 Begins TextQuote c rest = Unit {0}
@@ -94,7 +91,7 @@ module _ (c : ℕ) (rest : List ℕ) where
   abbrev s2 : Start
   s2 = cond (c ∈ "%") LineComment s3
 
-  begins-start : P (start (c ∷ rest))
+  pub begins-start : P (start (c ∷ rest))
   begins-start =
       cond_both (is_layout c) Layout s2 P (λ h. h)
       (λ _. cond_both (c ∈ "%") LineComment s3 P (λ h. h)
@@ -102,7 +99,7 @@ module _ (c : ℕ) (rest : List ℕ) where
       (λ _. cond_both (is_ascii_lowercase c) SmallLetter s5 P (λ h. h)
       (λ _. cond_both (is_ascii_uppercase c || c ∈ "_") CapitalLetter s6 P (λ h. h)
       (λ _. cond_both (is_digit c 10) Digit s7 P (λ h. h)
-      (λ _. cond_both (c ∈ "." && ends_clause rest) ClauseEnd s8 P (λ _. tt)
+      (λ _. cond_both (c ∈ "." && ends_clause rest) ClauseEnd s8 P (λ h. h)
       (λ _. cond_both (is_symbol c) Symbols (sign c) P (λ h. h) (λ _. of_sign))))))))
 
 -- letters are parts of names, and `%` ends no line

@@ -7,7 +7,8 @@ use Rattle.cp_lex.specs.declared.quoted.Sign.TheVariants as signs
 use Rattle.cp_lex.specs.declared.quoted.Part.{Part}
 use Rattle.cp_lex.specs.declared.quoted.Quoted.{Quoted}
 use Rattle.cp_lex.specs.declared.quoted.Quoted.TheVariants.{Closed, BadAt, Unended}
-use Rattle.cp_lex.specs.Quoted.{part_at, spelled, closes, first_bad, onward, misspelt, finished, quoted_from, quoted, IsQuotedWithin}
+use Rattle.cp_lex.specs.Quoted.{part_at, spelled, onward, misspelt, quoted_from, quoted}
+use Rattle.cp_lex.specs.Steps.{closes, first_bad, finished, IsQuotedWithin}
 
 -- nothing is read yet
 finished-none : (q : Quoted) → q ≡ finished [] None 0 q
@@ -48,7 +49,7 @@ misspelt-more bytes (Some place) at more (Closed ys n) = refl
 misspelt-more bytes (Some place) at more (BadAt n) = refl
 misspelt-more bytes (Some place) at more Unended = refl
 
-abbrev from_part : Part → ℕ → List ℕ → Quoted
+abbrev pub from_part : Part → ℕ → List ℕ → Quoted
 from_part p mark text = elim (p.sign) [
   | signs.Closes ↦ Closed [] 1
   | signs.Misspelt ↦ misspelt (quoted_from mark p.more text)

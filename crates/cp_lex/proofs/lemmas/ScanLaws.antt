@@ -14,14 +14,11 @@ use Rattle.cp_lex.specs.declared.piece.Piece.{Piece}
 use Rattle.cp_lex.specs.declared.piece.Piece.TheVariants as pieces
 use Rattle.cp_lex.specs.Lexical.{after, piece}
 use Rattle.cp_lex.specs.Tokens.{newlines, Place, past, with_token, refused_at, scan_from}
-use Rattle.cp_lex.proofs.lemmas.InsideLaws.{IsInside, piece-inside}
+pub use Rattle.cp_lex.specs.Laws.{onto, moved, token_at, from_piece, IsInside}
+use Rattle.cp_lex.proofs.lemmas.InsideLaws.{piece-inside}
 
 abbrev pub place : ℕ → ℕ → Place
 place at line = record { at = at; line = line }
-
--- the place behind the first n bytes of a text that begins at p
-abbrev pub moved : ℕ → List ℕ → Place → Place
-moved n text p = record { at = p.at + n; line = p.line + newlines (take n text) }
 
 moved-zero : (text : List ℕ) (p : Place) → p ≡ moved 0 text p
 moved-zero text p = λ i. record { at = sym (add-zero (p.at)) i; line = sym (add-zero (p.line)) i }
@@ -29,7 +26,7 @@ moved-zero text p = λ i. record { at = sym (add-zero (p.at)) i; line = sym (add
 past_line : (c k : ℕ) (p : Place) → (past c p).line + k ≡ p.line + (cond (c == newline) 1 0 + k)
 past_line c k p = elim (c == newline) as (λ b. cond b (suc (p.line)) (p.line) + k ≡ p.line + (cond b 1 0 + k)) [ true ↦ omega arith | false ↦ omega arith ]
 
-moved-past : (n c : ℕ) (text : List ℕ) (p : Place) → moved n text (past c p) ≡ moved (suc n) (c ∷ text) p
+pub moved-past : (n c : ℕ) (text : List ℕ) (p : Place) → moved n text (past c p) ≡ moved (suc n) (c ∷ text) p
 moved-past n c text p = λ i. record {
   at = (let e : suc (p.at) + n ≡ p.at + suc n = omega arith in e) i;
   line = past_line c (newlines (take n text)) p i;
@@ -40,15 +37,6 @@ skip : (b : Before) (n : ℕ) (text : List ℕ) (p : Place) → n ≤ length tex
 skip b zero text p h = ap (λ q. scan_from b 0 q text) (moved-zero text p)
 skip b (suc n) [] p h = absurd (omega (arith, h))
 skip b (suc n) (c ∷ text) p h = skip b n text (past c p) (omega (arith, h)) ∙ ap (λ q. scan_from b 0 q (drop n text)) (moved-past n c text p)
-
-abbrev pub token_at : TokenKind → ℕ → Place → Token
-token_at kind n p = record { kind = kind; from = p.at; to = p.at + n; line = p.line }
-
--- what the scan from a place on is, where this piece stands there
-abbrev pub from_piece : Piece → Place → List ℕ → Scan
-from_piece (pieces.Blank n) p text = scan_from NoWord 0 (moved n text p) (drop n text)
-from_piece (pieces.Token kind n) p text = with_token (token_at kind n p) (scan_from (after kind n) 0 (moved n text p) (drop n text))
-from_piece (pieces.Refused why n) p text = refused_at (p.line + newlines (take n text)) why
 
 piece_step : (b : Before) (pc : Piece) (c : ℕ) (text : List ℕ) (p : Place) → IsInside pc (length (c ∷ text)) → (elim pc as (λ _. Scan) [
   | pieces.Blank n ↦ scan_from NoWord (n - 1) (past c p) text
@@ -70,10 +58,6 @@ piece_step b (pieces.Refused why n) c text p h = refl
 pub step : (b : Before) (text : List ℕ) (p : Place) → 0 < length text → scan_from b 0 p text ≡ from_piece (piece b text) p text
 step b [] p some = absurd (omega (arith, some))
 step b (c ∷ text) p some = piece_step b (piece b (c ∷ text)) c text p (piece-inside b (c ∷ text) some)
-
--- tokens in front of a scan
-abbrev pub onto : List Token → Scan → Scan
-onto ts s = record { tokens = ts ++ s.tokens; refusal = s.refusal }
 
 onto-with_token : (ts : List Token) (t : Token) (s : Scan) → onto ts (with_token t s) ≡ onto (ts ++ t ∷ []) s
 onto-with_token ts t s = λ i. record { tokens = sym (append_assoc ts (t ∷ []) s.tokens) i; refusal = s.refusal }

@@ -1,6 +1,7 @@
 use Rattle.std.proofs.Common.{◌≡◌, ◌∷◌, [], ◌+◌, sym, ◌∙◌, ap, subst, arith, length}
 use Rattle.cp_lex.specs.declared.quoted.Quoted.TheVariants.{Closed}
-use Rattle.cp_lex.specs.Quoted.{quoted, finished, IsQuotedWithin}
+use Rattle.cp_lex.specs.Quoted.{quoted}
+use Rattle.cp_lex.specs.Steps.{finished, IsQuotedWithin}
 use Rattle.cp_lex.proofs.lemmas.QuotedLaws.{quoted-step, quoted-closed, quoted-within}
 use Rattle.cp_lex.proofs.quoted.quoted_at.Goals as goal
 

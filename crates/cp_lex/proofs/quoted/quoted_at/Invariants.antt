@@ -1,5 +1,6 @@
 use Rattle.std.proofs.Common.{◌≡◌, ◌+◌, length}
-use Rattle.cp_lex.specs.Quoted.{quoted, finished}
+use Rattle.cp_lex.specs.Quoted.{quoted}
+use Rattle.cp_lex.specs.Steps.{finished}
 use Rattle.cp_lex.proofs.quoted.quoted_at.Given as goal
 
 abbrev pub invariant-loop-first : goal.invariant-loop-first

@@ -17,9 +17,15 @@ pub returns : goal.returns
 returns g c = record {
   code = refl;
   added = ([], nothing _, HasAdded-none _ _ _ _);
+  life = λ l. l;
   turned = tt;
   others = asks_stays _ _ _ _ _;
   others_written = writes_stays _ _ _;
   asker = g.met.A.Asker.stays_here _;
   port = g.met.P.Writer.stays_here _;
 }
+
+pub returns-in-Ends-clause-life : goal.returns-in-Ends-clause-life
+returns-in-Ends-clause-life g c = c.end_goal.ensures.life (g.M.Rule.Asks.asks (g.M.Machine.code c.args.machine.now))
+    (subst (λ s. IsAt (g.M.Rule.Asks.asks (g.M.Machine.code c.args.machine.now)) (g.M.Rule.Asks.objects (g.M.Machine.code c.args.machine.now)) (g.M.Machine.continuation c.args.machine.now) (g.M.Machine.failed c.args.machine.now) (life.last_stage (g.M.Rule.Asks.asks (g.M.Machine.code c.args.machine.now)) life.Idle c.args.items.now.items) s) c.in-Ends.is c.requires.at
+    ∙ ap (λ k. life.Ends k c.in-Ends.end) (sym (to_z-of_z w64 c.in-Ends.goal (search rules))))

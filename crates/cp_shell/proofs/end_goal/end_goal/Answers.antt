@@ -3,6 +3,7 @@ use Rattle.std.proofs.lemmas.Int.{to_z-of_z}
 use Rattle.cp_call.specs.Life as life
 use Rattle.cp_shell.specs.Stage.{IsAt}
 use Rattle.cp_shell.specs.Turn.{after_answer}
+use Rattle.cp_shell.proofs.Living.{lives_by_end}
 use Rattle.cp_shell.proofs.Turning.{turned_by_end}
 use Rattle.cp_shell.proofs.end_goal.end_goal.Goals as goal
 
@@ -16,3 +17,11 @@ returns-clause-turned g c rule continuation failed ends =
     (subst (λ e. IsAt rule (length (g.A.Asker.objects c.args.asker.now)) continuation failed (after_answer rule (life.Ends (to_z w64 (of_z w64 c.args.goal)) e) c.in_ok-asked.field-0) c.said.result.stage) c.end.view_is
     (c.said.ensures.at rule (length (g.A.Asker.objects c.args.asker.now)) continuation failed)))
     c.said.ensures.parked
+
+pub returns-clause-life : goal.returns-clause-life
+returns-clause-life g c rule ends = lives_by_end rule c.args.items.now.items _ c.args.goal c.args.end _ ends
+    (c.in_ok-ended_term.ensures ∙ ap (λ k. life.ended_fact k c.args.end) (to_z-of_z w64 c.args.goal c.ranges.goal)) c.ask-asked.ensures.event
+
+pub returns-in_err-asked-clause-life : goal.returns-in_err-asked-clause-life
+returns-in_err-asked-clause-life g c rule ends = lives_by_end rule c.args.items.now.items _ c.args.goal c.args.end _ ends
+    (c.in_ok-ended_term.ensures ∙ ap (λ k. life.ended_fact k c.args.end) (to_z-of_z w64 c.args.goal c.ranges.goal)) c.ask-asked.ensures.event

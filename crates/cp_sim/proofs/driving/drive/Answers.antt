@@ -1,5 +1,6 @@
 use Rattle.std.proofs.Common.{◌≤◌, ◌∙◌, sym, ap, subst, length, IsTrue}
-use Rattle.cp_sim.proofs.Events.{driven_on, asks_on, writes_on, running_as, driven_as}
+use Rattle.cp_sim.proofs.Events.{driven_on, running_on, asks_on, writes_on, running_as, driven_as}
+use Rattle.cp_sim.proofs.Resting.{rests_turned}
 use Rattle.cp_sim.proofs.driving.drive.Goals as goal
 
 pub returns-in_err-turn-clause-others : goal.returns-in_err-turn-clause-others
@@ -29,3 +30,18 @@ loop-preserved g c = record {
   asker = g.met.A.Asker.stays_on _ _ _ c.loop.invariant.asker c.make_event.ensures.asker;
   port = g.met.P.Writer.stays_on _ _ _ c.loop.invariant.port c.make_event.ensures.port;
 }
+
+pub returns-in_err-turn-clause-running : goal.returns-in_err-turn-clause-running
+returns-in_err-turn-clause-running g c =
+    running_as g.M.Rule.Asks.asks (g.M.Machine.code c.loop.machine) (g.M.Machine.code c.args.machine.now) (g.A.Asker.objects c.loop.asker) (g.A.Asker.objects c.args.asker.now) _ _ c.args.number _
+    c.loop.invariant.code c.loop.invariant.others.objects_stay
+    (running_on _ _ _ _ c.make_event.ensures.added.0 _ _ _ _ _ c.loop.invariant.driven.running c.make_event.ensures.life c.make_event.ensures.added.1 c.make_event.ensures.added.2)
+
+pub returns-clause-running : goal.returns-clause-running
+returns-clause-running g c =
+    running_as g.M.Rule.Asks.asks (g.M.Machine.code c.loop.machine) (g.M.Machine.code c.args.machine.now) (g.A.Asker.objects c.loop.asker) (g.A.Asker.objects c.args.asker.now) _ _ c.args.number _
+    c.loop.invariant.code c.loop.invariant.others.objects_stay c.loop.invariant.driven.running
+
+pub returns-in-Some-clause-parked : goal.returns-in-Some-clause-parked
+returns-in-Some-clause-parked g c = rests_turned _ _ _ _ _ _ _ _ c.args.number _ _ _ c.in_ok-turn.ensures.turned c.in-Some.is
+    (driven_on _ _ _ _ _ _ _ _ c.make_event.ensures.added.0 _ _ _ _ _ _ _ _ c.loop.invariant.driven c.make_event.ensures.added.1 c.make_event.ensures.added.2 c.in_ok-turn.ensures.turned).running

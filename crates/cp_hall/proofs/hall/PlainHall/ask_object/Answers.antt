@@ -1,11 +1,11 @@
-use Rattle.std.proofs.Common.{◌≡◌, ℕ, ◌<◌, List, length, refl, sym, ◌∙◌, ap, subst, Some, arith}
+use Rattle.std.proofs.Common.{◌≡◌, ◌<◌, List, length, refl, ◌∙◌, ap, subst, Some, arith}
 use Rattle.std.specs.Prelude.{map, slice_get, slice_set, IfSome}
 use Rattle.std.proofs.lemmas.Option.{slice_get_read}
-use Rattle.cp_call.specs.declared.call.Entry.{Entry}
 use Rattle.cp_call.specs.Asker.{entry_added, IsFullBy, IsStill}
 use Rattle.cp_hall.specs.declared.hall.HallRow.{HallRow}
 use Rattle.cp_hall.specs.Hall.{HallObject, hall_object, objects_of, history_at, with_more, IsAnswered}
 use Rattle.cp_hall.proofs.Asking.{set_is, get_is, object_is, history_set, length_is, length_objects, objects_more}
+use Rattle.cp_hall.proofs.Ending.{legal_set}
 use Rattle.cp_hall.proofs.hall.PlainHall.ask_object.Goals as goal
 use Rattle.cp_hall.proofs.hall.PlainHall.ask_object.Goals.{After-self-1}
 
@@ -40,3 +40,6 @@ returns-clause-still c =
     subst (λ (hall : List HallObject). IsStill (slice_get (objects_of hall) c.args.object) (history_at (map hall_object (slice_set c.self.inside.rows.items c.args.object new)) c.args.object) c.args.caller c.args.call.now c.ask_one.result) c.self.view_is
     (rw (object_is (map hall_object c.self.inside.rows.items) c.args.object (hall_object c.index_mut-row.result.now) (get_is c.self.inside.rows.items c.args.object c.index_mut-row.result.now (was c)), history_set c.self.inside.rows.items c.args.object new (inside c))
     (c.ask_one.ensures.still (hall_object c.index_mut-row.result.now).object refl refl))
+
+pub invariant_of-self : goal.invariant_of-self
+invariant_of-self c = legal_set c.self.inside.rows.items c.args.object (record { name = c.index_mut-row.result.now.name; pred = c.ask_one.new.pred }) c.self.invariant c.ask_one.ensures.legal

@@ -1,11 +1,11 @@
-use Rattle.std.proofs.Common.{◌≡◌, List, [], ◌∷◌, ◌++◌, length, sym, ◌∙◌, ap, subst}
+use Rattle.std.proofs.Common.{◌≡◌, List, [], sym, ◌∙◌, subst}
 use Rattle.std.specs.Prelude.{map}
 use Rattle.std.proofs.lemmas.List.{nil_from_length}
 use Rattle.cp_call.specs.declared.outcome.PredEnd.{PredEnd}
 use Rattle.cp_call.specs.Sound.{AreKept}
 use Rattle.cp_hall.specs.declared.hall.HallRow.{HallRow}
-use Rattle.cp_hall.specs.Hall.{HallObject, hall_object, objects_of, histories_of, ended_histories, EndsWith}
-use Rattle.cp_hall.proofs.Ending.{one_ended, all_ended}
+use Rattle.cp_hall.specs.Hall.{hall_object, objects_of, histories_of, ended_histories, EndsWith, CanEnd}
+use Rattle.cp_hall.proofs.Ending.{one_ended, all_ended, can_end}
 use Rattle.cp_hall.proofs.hall.PlainHall.into_ends.Goals as goal
 use Rattle.cp_hall.proofs.hall.PlainHall.into_ends.Goals.{After-drop-row-iterator-2}
 
@@ -25,3 +25,12 @@ returns-clause-kept c = (ended c).0
 
 pub returns-clause-histories : goal.returns-clause-histories
 returns-clause-histories c = (ended c).1
+
+pub returns-in_err-end_of-clause-can_end : goal.returns-in_err-end_of-clause-can_end
+returns-in_err-end_of-clause-can_end c = subst CanEnd c.self.view_is (can_end _ c.self.invariant)
+
+pub returns-in_err-push-clause-can_end : goal.returns-in_err-push-clause-can_end
+returns-in_err-push-clause-can_end c = subst CanEnd c.self.view_is (can_end _ c.self.invariant)
+
+pub returns-clause-can_end : goal.returns-clause-can_end
+returns-clause-can_end c = subst CanEnd c.self.view_is (can_end _ c.self.invariant)

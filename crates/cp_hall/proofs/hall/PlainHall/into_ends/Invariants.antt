@@ -1,4 +1,3 @@
-use Rattle.std.proofs.Common.{◌≡◌}
 use Rattle.std.specs.Prelude.{map}
 use Rattle.cp_hall.specs.Hall.{EndsWith, hall_object}
 use Rattle.cp_hall.proofs.hall.PlainHall.into_ends.Given as goal

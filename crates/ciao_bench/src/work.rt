@@ -1,0 +1,53 @@
+use crate::operators::operators;
+use crate::tokens::tokens;
+use crate::unify::unify;
+use crate::write::write;
+use std::alloc::{AllocError, Global};
+
+/// A piece of work.
+#[derive(Clone, Copy)]
+pub(crate) enum Work {
+    Operators,
+    Tokens,
+    Unify,
+    Write,
+}
+
+/// The names of all pieces of work.
+pub(crate) const NAMES: &str = "operators, tokens, unify or write";
+
+impl Work {
+    /// The piece of work with this name.
+    pub(crate) fn named(name: &str) -> Option<Work> {
+        if name == "operators" {
+            Some(Work::Operators)
+        } else if name == "tokens" {
+            Some(Work::Tokens)
+        } else if name == "unify" {
+            Some(Work::Unify)
+        } else if name == "write" {
+            Some(Work::Write)
+        } else {
+            None
+        }
+    }
+
+    pub(crate) fn name(self) -> &'static str {
+        match self {
+            Work::Operators => "operators",
+            Work::Tokens => "tokens",
+            Work::Unify => "unify",
+            Work::Write => "write",
+        }
+    }
+
+    /// Does the work so many times, and answers a number that depends on all of them.
+    pub(crate) fn done(self, alloc: Global, count: u32) -> Result<u64, AllocError> {
+        match self {
+            Work::Operators => operators(alloc, count),
+            Work::Tokens => tokens(alloc, count),
+            Work::Unify => unify(alloc, count),
+            Work::Write => write(alloc, count),
+        }
+    }
+}

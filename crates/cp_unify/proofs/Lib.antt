@@ -1,0 +1,5 @@
+pub mod PairLaws
+pub mod StepLaws
+pub mod StackLaws
+pub mod OrderLaws
+pub mod RowLaws

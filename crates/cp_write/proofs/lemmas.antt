@@ -1,0 +1,4 @@
+pub mod BesideLaws
+pub mod ShapeLaws
+pub mod WriterLaws
+pub mod NameLaws
