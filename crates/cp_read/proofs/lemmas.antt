@@ -10,3 +10,6 @@ pub mod DraftLaws
 pub mod MachineLaws
 pub mod CloseLaws
 pub mod MoreLaws
+pub mod KnowsLaws
+pub mod Fronts
+pub mod OperandLaws

@@ -1,5 +1,5 @@
 -- The cells of a clause as far as it was read.
-use Rattle.std.specs.Prelude.{◌≡◌, ℕ, Bool, true, false, List, [], ◌∷◌, ◌++◌, map, reverse, length, Option, Some, None}
+use Rattle.std.specs.Prelude.{◌≡◌, ℕ, Bool, true, false, List, [], ◌∷◌, ◌++◌, map, reverse, length, Option, Some, None, pos, codes}
 use Rattle.std.specs.Borrow.{Bor}
 use Rattle.cp_term.specs.declared.cell.Cell.{Cell}
 use Rattle.cp_term.specs.declared.cell.Cell.TheVariants.{Var, Int, Atom, Func}
@@ -28,3 +28,8 @@ pieces_in d = map piece_seen d.pieces.items
 abbrev pub cells_of : List (List Cell) → List Cell
 cells_of [] = []
 cells_of (p ∷ ps) = p ++ cells_of ps
+
+-- the pieces of the list of these character codes, but for its end
+abbrev pub code_pieces : List ℕ → List (List Cell)
+code_pieces [] = []
+code_pieces (c ∷ cs) = (Func (codes ".") 2 ∷ []) ∷ (Int (pos c) ∷ []) ∷ code_pieces cs

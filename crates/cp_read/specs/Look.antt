@@ -1,5 +1,5 @@
 -- A token as the code looks at it, and what it is then as a lexeme.
-use Rattle.std.specs.Prelude.{◌≡◌, ℕ, ◌+◌, ◌≤◌, ◌^◌, Bool, true, false, ◌&&◌, ◌==◌, List, [], ◌∷◌, Option, Some, None, codes}
+use Rattle.std.specs.Prelude.{◌≡◌, ℕ, ◌+◌, ◌≤◌, ◌^◌, Bool, true, false, ◌&&◌, ◌==◌, List, [], ◌∷◌, drop, Option, Some, None, ℤ, pos, neg_ℤ, codes}
 use Rattle.std.specs.Str.{is_utf8, bytes_eq}
 use Rattle.cp_lex.specs.declared.token.Token.{Token}
 use Rattle.cp_lex.specs.declared.token.TokenKind.{TokenKind}
@@ -8,7 +8,7 @@ use Rattle.cp_read.specs.declared.look.Look.{Look}
 use Rattle.cp_read.specs.declared.look.Look.TheVariants as looks
 use Rattle.cp_read.specs.declared.operators.Prefix as declared
 use Rattle.cp_read.specs.declared.operators.Infix as declared_infix
-use Rattle.cp_read.specs.Lexemes.{Lexeme, stray, lexeme_by, int_at}
+use Rattle.cp_read.specs.Lexemes.{Lexeme, number, stray, lexeme_by, lexemes, int_at}
 use Rattle.cp_read.specs.declared.behind.Behind as declared_behind
 use Rattle.cp_read.specs.declared.behind.Behind.TheVariants as signs_behind
 use Rattle.cp_read.specs.Grammar.{Prefix, Infix, Behind, closed_by, comma_and, bar_and, neither}
@@ -53,6 +53,18 @@ is_minus t = elim (t.kind) [
 abbrev pub signs : List Token → Bool
 signs [] = false
 signs (t ∷ ts) = is_minus t && int_at t.to ts
+
+-- The first of these lexemes is an integer.
+abbrev pub is_integer : List Lexeme → Bool
+is_integer [] = false
+is_integer (number n ∷ ls) = true
+is_integer (l ∷ ls) = false
+
+-- The negative integer that the first two tokens are: the second is this integer. It is none where the first is no sign, or
+-- the integer too large.
+abbrev pub IsNegative : Option ℤ → List Token → Type 0
+IsNegative (Some i) ts = (signs ts ≡ true) × (n : ℕ) × (i ≡ neg_ℤ (pos n)) × IsFront (Some (looks.Number n)) (drop 1 ts)
+IsNegative None ts = (list : List (List ℕ)) → signs ts && is_integer (lexemes list (drop 1 ts)) ≡ false
 
 -- ---- operators
 

@@ -1,6 +1,6 @@
 -- Reading without recursion: the constructs that are open are kept in a list, and each step takes a lexeme in or closes one
 -- construct. What a state still has to give never changes, so the last state gives what the grammar gives.
-use Rattle.std.specs.Prelude.{ℕ, suc, List, [], ◌∷◌, ◌++◌, length, Option, Some, None, Result, Ok, Err, codes}
+use Rattle.std.specs.Prelude.{ℕ, suc, ◌+◌, ◌*◌, List, [], ◌∷◌, ◌++◌, length, Option, Some, None, Result, Ok, Err, codes}
 use Rattle.cp_term.specs.declared.cell.Cell.{Cell}
 use Rattle.cp_term.specs.declared.cell.Cell.TheVariants.{Func}
 use Rattle.cp_ops.specs.Operators.{Ops}
@@ -75,3 +75,8 @@ pub data State : Type 0 where
 abbrev pub meaning : Ops → State → Result Read Stop
 meaning ops (expects os max ls) = plugged ops os (any_term ops max ls)
 meaning ops (has os max left) = plugged ops os (go_on ops max left)
+
+-- Each step makes this less, and so reading ends.
+abbrev pub weight : State → ℕ
+weight (expects os max ls) = 3 * length ls + length os + 1
+weight (has os max left) = 3 * length (left.rest) + length os

@@ -1,5 +1,5 @@
 -- The variables that were seen in a clause.
-use Rattle.std.specs.Prelude.{◌≡◌, ℕ, ◌+◌, false, cond, List, [], ◌∷◌, ◌++◌, length, Option, Some, None, unwrap_or, is_some, codes}
+use Rattle.std.specs.Prelude.{◌≡◌, ◌<◌, ℕ, ◌+◌, false, cond, List, [], ◌∷◌, ◌++◌, length, Option, Some, None, unwrap_or, is_some, codes}
 use Rattle.std.specs.Str.{bytes_eq}
 use Rattle.cp_read.specs.Lexemes.{is_anonymous, place_of}
 
@@ -31,7 +31,12 @@ number_of seen v = cond (bytes_eq v (codes "_")) seen.count (unwrap_or (number_i
 abbrev pub seen_with : Seen → List ℕ → Seen
 seen_with seen v = cond (bytes_eq v (codes "_")) (with_nameless seen) (cond (is_some (number_in seen.names v)) seen (with_new seen v))
 
+-- a look-up answers the place of a name among these, or nothing where it is none of them
+abbrev pub Placed : Option ℕ → List (List ℕ) → List ℕ → Type 0
+Placed (Some n) list called = (n ≡ place_of list called) × (n < length list)
+Placed None list called = place_of list called ≡ length list
+
 -- the two know the same variables
 pub record Knows (seen : Seen) (list : List (List ℕ)) : Type 0 where
   pub count : seen.count ≡ length list
-  pub places : (called : List ℕ) → is_anonymous called ≡ false → unwrap_or (number_in seen.names called) seen.count ≡ place_of list called
+  pub places : (called : List ℕ) → is_anonymous called ≡ false → Placed (number_in seen.names called) list called

@@ -1,5 +1,5 @@
 -- How what the code holds while it reads a clause stands for a state.
-use Rattle.std.specs.Prelude.{◌≡◌, ℕ, ⊤, List, [], ◌∷◌, ◌++◌, length, reverse, None, Result, Ok, Err, codes}
+use Rattle.std.specs.Prelude.{◌≡◌, ◌<◌, ℕ, ⊤, List, [], ◌∷◌, ◌++◌, length, reverse, drop, true, None, Result, Ok, Err, codes}
 use Rattle.cp_term.specs.declared.cell.Cell.{Cell}
 use Rattle.cp_term.specs.declared.cell.Cell.TheVariants.{Func}
 use Rattle.cp_ops.specs.Operators.{Ops}
@@ -10,12 +10,15 @@ use Rattle.cp_read.specs.declared.frame.Turn.{Turn}
 use Rattle.cp_read.specs.declared.frame.Turn.TheVariants as turns
 use Rattle.cp_read.specs.declared.frame.Stop as frame
 use Rattle.cp_read.specs.declared.frame.Stop.TheVariants as stops
+use Rattle.cp_lex.specs.declared.token.Token.{Token}
+use Rattle.cp_read.specs.Derivation.{is_plain}
+use Rattle.cp_read.specs.Look.{signs}
 use Rattle.cp_read.specs.Drafts.{cells_of}
 use Rattle.cp_read.specs.Progress.{Progress}
 use Rattle.cp_read.specs.SeenNames.{Knows}
 use Rattle.cp_read.specs.Lexemes.{Lexeme, lexemes}
 use Rattle.cp_read.specs.Grammar.{Stop, stopped, Read, primary, admitted, list_cell}
-use Rattle.cp_read.specs.Machine.{Open, operand_of, parentheses, braces, arguments_of, elements_of, tail_of, State, expects, has, meaning}
+use Rattle.cp_read.specs.Machine.{Open, operand_of, parentheses, braces, arguments_of, elements_of, tail_of, State, expects, has, meaning, weight}
 
 -- the construct is this one, where these are the pieces that were read of it
 abbrev pub IsOpen : Construct → ℕ → List (List Cell) → Open → Type 0
@@ -35,12 +38,17 @@ Stacked (f ∷ fs) pieces [] = ⊥
 Stacked (f ∷ fs) pieces (o ∷ os) =
     (before own : List (List Cell)) × (pieces ≡ before ++ own) × (length before ≡ f.start) × IsOpen f.construct f.max own o × Stacked fs before os
 
+-- a term has a piece at least
+abbrev pub Filled : List (List Cell) → Type 0
+Filled [] = ⊥
+Filled (p ∷ ps) = ⊤
+
 -- the state in which the reading goes on
 abbrev pub IsState : Turn → Progress → State → Type 0
 IsState (turns.Expects max) r s =
     (list : List (List ℕ)) × (os : List Open) × Knows r.seen list × Stacked (reverse r.frames) r.pieces os × (s ≡ expects os max (lexemes list r.tokens))
 IsState (turns.Has start priority max) r s =
-    (list : List (List ℕ)) × (os : List Open) × (before own : List (List Cell)) × Knows r.seen list × Stacked (reverse r.frames) before os
+    (list : List (List ℕ)) × (os : List Open) × (before own : List (List Cell)) × Filled own × Knows r.seen list × Stacked (reverse r.frames) before os
     × (r.pieces ≡ before ++ own) × (length before ≡ start)
     × (s ≡ has os max (record { cells = cells_of own; priority = priority; rest = lexemes list r.tokens }))
 IsState turns.Ended r s = ⊥
@@ -49,7 +57,7 @@ IsState turns.Ended r s = ⊥
 abbrev pub IsClosing : Ops → Construct → ℕ → ℕ → Progress → State → Type 0
 IsClosing ops construct start outer r s =
     (list : List (List ℕ)) × (os : List Open) × (o : Open) × (before own mine : List (List Cell)) × (max priority : ℕ)
-    × Knows r.seen list × Stacked (reverse r.frames) before os × (r.pieces ≡ before ++ (own ++ mine)) × (length before ≡ start)
+    × Filled mine × Knows r.seen list × Stacked (reverse r.frames) before os × (r.pieces ≡ before ++ (own ++ mine)) × (length before ≡ start)
     × IsOpen construct outer own o
     × (admitted ops max (record { cells = cells_of mine; priority = priority; rest = lexemes list r.tokens }) ≡ None)
     × (s ≡ has (o ∷ os) max (record { cells = cells_of mine; priority = priority; rest = lexemes list r.tokens }))
@@ -61,10 +69,22 @@ IsEnding ops r s =
     × (admitted ops max (record { cells = cells_of r.pieces; priority = priority; rest = lexemes list r.tokens }) ≡ None)
     × (s ≡ has [] max (record { cells = cells_of r.pieces; priority = priority; rest = lexemes list r.tokens }))
 
--- The step keeps what the state gives; or the clause has come, or a fault.
+-- The state in which a term has come, and no infix operator takes it in.
+abbrev pub IsEnded : Ops → Progress → State → Type 0
+IsEnded ops r s =
+    (list : List (List ℕ)) × (os : List Open) × (before own : List (List Cell)) × (max priority : ℕ)
+    × Filled own × Knows r.seen list × Stacked (reverse r.frames) before os × (r.pieces ≡ before ++ own)
+    × (admitted ops max (record { cells = cells_of own; priority = priority; rest = lexemes list r.tokens }) ≡ None)
+    × (s ≡ has os max (record { cells = cells_of own; priority = priority; rest = lexemes list r.tokens }))
+
+-- the first token neither opens a call nor is the sign of an integer
+abbrev pub IsPlain : List Token → Type 0
+IsPlain ts = (list : List (List ℕ)) → is_plain (signs ts) (lexemes list (drop 1 ts)) ≡ true
+
+-- The step keeps what the state gives, and its weight falls; or the clause has come, or a fault.
 abbrev pub Keeps : Ops → State → Turn → Progress → Type 0
-Keeps ops s (turns.Expects max) r = (t : State) × IsState (turns.Expects max) r t × (meaning ops s ≡ meaning ops t)
-Keeps ops s (turns.Has start priority max) r = (t : State) × IsState (turns.Has start priority max) r t × (meaning ops s ≡ meaning ops t)
+Keeps ops s (turns.Expects max) r = (t : State) × IsState (turns.Expects max) r t × (meaning ops s ≡ meaning ops t) × (weight t < weight s)
+Keeps ops s (turns.Has start priority max) r = (t : State) × IsState (turns.Has start priority max) r t × (meaning ops s ≡ meaning ops t) × (weight t < weight s)
 Keeps ops s turns.Ended r = (list : List (List ℕ)) × (meaning ops s ≡ primary (cells_of r.pieces) (lexemes list r.tokens))
 
 abbrev pub Steps : Ops → State → Result Turn frame.Stop → Progress → Type 0

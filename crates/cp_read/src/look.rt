@@ -1,7 +1,7 @@
-ghost use Rattle.std.specs.Prelude.{◌≡◌, ◌+◌, nat_eq, drop, codes};
+ghost use Rattle.std.specs.Prelude.{◌≡◌, ◌+◌, ◌≤◌, ◌^◌, neg_ℤ, pos, nat_eq, drop, codes};
 ghost use Rattle.std.specs.Str.{is_utf8, bytes_eq};
 ghost use Rattle.cp_lex.specs.declared.token.TokenKind.TheVariants as kinds;
-ghost use Rattle.cp_read.specs.Look.{IsLook, IsFront, signs, is_minus};
+ghost use Rattle.cp_read.specs.Look.{IsLook, IsFront, IsNegative, signs, is_minus};
 ghost use Rattle.cp_read.specs.Lexemes.{is_int, int_at};
 
 use cp_lex::{Token, TokenKind};
@@ -166,5 +166,31 @@ fn is_integer(kind: &TokenKind) -> bool
     match kind {
         TokenKind::Int(_) => true,
         _ => false,
+    }
+}
+
+/// The negative integer that the first two tokens are, if the first is the sign of the second.
+pub(crate) fn negative_at(tokens: &[Token]) -> Option<i64>
+    ensures { IsNegative result tokens.now }
+{
+    if is_sign(tokens) {
+        match look_at(behind(tokens)) {
+            Some(Look::Number(value)) => Some(negative(value)),
+            _ => None,
+        }
+    } else {
+        None
+    }
+}
+
+/// The negative of a number of at most 2 ^ 63.
+fn negative(value: u64) -> i64
+    requires { value ≤ 2 ^ 63 }
+    ensures { result ≡ neg_ℤ (pos value) }
+{
+    if value < 1 << 63 {
+        -(value as i64)
+    } else {
+        i64::MIN
     }
 }

@@ -1,14 +1,18 @@
-ghost use Rattle.std.specs.Prelude.{◌≡◌, true, false, ℕ, ◌≤◌, ◌^◌, neg_ℤ, pos, List, [], ◌∷◌, ◌++◌, length, slice_set, drop, Ok, Err, IfOk, OnOk, IfErr};
-ghost use Rattle.cp_term.specs.declared.cell.Cell.TheVariants.{Func};
+ghost use Rattle.std.specs.Prelude.{◌≡◌, true, false, ℕ, pos, List, [], ◌∷◌, ◌++◌, length, slice_set, slice_index_or, drop, Ok, Err, IfOk, OnOk, IfErr, Some, codes};
+ghost use Rattle.std.specs.Str.{chars};
+ghost use Rattle.cp_term.specs.declared.cell.Cell.TheVariants.{Var, Int, Func};
+ghost use Rattle.cp_ops.specs.Operators.{Ops};
+ghost use Rattle.cp_read.specs.declared.look.Look.TheVariants as looks;
+ghost use Rattle.cp_read.specs.Look.{IsFront};
 ghost use Rattle.cp_read.specs.declared.frame.Turn.TheVariants as turns;
 ghost use Rattle.cp_read.specs.declared.frame.Stop.TheVariants as stops;
-ghost use Rattle.cp_read.specs.Drafts.{cell_seen, cells_of};
+ghost use Rattle.cp_read.specs.Drafts.{cell_seen, code_pieces};
 ghost use Rattle.cp_read.specs.Lexemes.{lexemes};
 ghost use Rattle.cp_read.specs.Grammar as grammar;
-ghost use Rattle.cp_read.specs.SeenNames.{nothing_seen};
+ghost use Rattle.cp_read.specs.SeenNames.{nothing_seen, number_of, seen_with};
 ghost use Rattle.cp_read.specs.declared.frame.Construct.TheVariants as constructs;
 ghost use Rattle.cp_read.specs.Machine.{State};
-ghost use Rattle.cp_read.specs.Stands.{IsEnding, IsClosing, Steps, Refuses};
+ghost use Rattle.cp_read.specs.Stands.{IsState, IsPlain, IsEnded, IsEnding, IsClosing, Steps, Refuses};
 
 use crate::behind::{
     Behind, behind_argument, behind_element, closes, closes_braces, closes_list, ends_clause,
@@ -16,8 +20,10 @@ use crate::behind::{
 use crate::draft::{Draft, DraftCell};
 use crate::error::SyntaxWhy;
 use crate::frame::{Construct, Frame, Stop, Turn};
-use crate::look::{Look, behind, is_sign, look_at};
-use crate::operators::{ARGUMENT, admitted, begins_operand, infix_at, is_call, prefix_within};
+use crate::look::{Look, behind, look_at, negative_at};
+use crate::operators::{
+    ARGUMENT, Infix, Prefix, admitted, begins_operand, infix_at, is_call, prefix_within,
+};
 use crate::variables::Variables;
 use cp_lex::Token;
 use cp_ops::OpTable;
@@ -91,75 +97,141 @@ impl<'a> Machine<'a> {
     }
 
     /// The first operand of a term, or the whole term.
-    fn operand(&mut self, ops: &OpTable, max: u16) -> Result<Turn, Stop> {
+    fn operand(&mut self, ops: &OpTable, max: u16) -> Result<Turn, Stop>
+        ensures { (s : State) → IsState (turns.Expects max) self.old s → Steps ops.now s result self.new }
+    {
         let tokens = self.tokens;
         match look_at(tokens) {
-            Some(Look::Variable(name)) => self.variable(name, max),
-            Some(Look::Text(bytes)) => self.text(bytes, max),
-            Some(Look::Number(value)) => self.number(value, max),
-            Some(Look::Word(name)) => self.word(ops, name, max),
-            Some(Look::CallOpens | Look::Opens) => {
-                self.tokens = behind(self.tokens);
-                let start = self.draft.len();
-                self.open(Construct::Parentheses, start, max, CLAUSE)
-            }
-            Some(Look::ListOpens) => self.list(max),
-            Some(Look::BracesOpen) => self.braces(max),
-            _ => self.unexpected(),
+            None => self.unexpected(),
+            Some(look) => self.operand_by(ops, look, max),
         }
     }
 
-    fn variable(&mut self, name: &'a [u8], max: u16) -> Result<Turn, Stop> {
+    /// The operand that begins with a token that was taken for this.
+    fn operand_by(&mut self, ops: &OpTable, look: Look<'a>, max: u16) -> Result<Turn, Stop>
+        ensures { (s : State) → IsFront (Some look.entry) self.old.tokens → IsState (turns.Expects max) self.old s → Steps ops.now s result self.new }
+    {
+        match look {
+            Look::Variable(name) => self.variable(name, max),
+            Look::Text(bytes) => self.text(bytes, max),
+            Look::Number(value) => self.number(value, max),
+            Look::Word(name) => self.word(ops, name, max),
+            Look::CallOpens => self.parentheses(max),
+            Look::Opens => self.parentheses(max),
+            Look::ListOpens => self.list(max),
+            Look::BracesOpen => self.braces(max),
+            Look::Closes => self.unexpected(),
+            Look::ListCloses => self.unexpected(),
+            Look::BracesClose => self.unexpected(),
+            Look::Comma => self.unexpected(),
+            Look::Bar => self.unexpected(),
+            Look::ClauseEnds => self.unexpected(),
+            Look::Stray => self.unexpected(),
+        }
+    }
+
+    fn variable(&mut self, name: &'a [u8], max: u16) -> Result<Turn, Stop>
+        ensures turn { IfOk result (λ t. t ≡ turns.Has (length self.old.pieces) 0 max) }
+        ensures ok { OnOk result (self.new ≡ record { tokens = drop 1 self.old.tokens; seen = seen_with self.old.seen name.entry.now; pieces = self.old.pieces ++ (Var (number_of self.old.seen name.entry.now) ∷ []) ∷ []; frames = self.old.frames }) }
+        ensures err { IfErr result (λ e. e ≡ stops.NoMemory) }
+    {
         match self.variables.number(name) {
-            Ok(number) => self.primary(DraftCell::Var(number), behind(self.tokens), max),
+            Ok(number) => {
+                let rest = behind(self.tokens);
+                self.primary(DraftCell::Var(number), rest, max)
+            }
             Err(_) => Err(Stop::NoMemory),
         }
     }
 
     /// A number of 2 ^ 63 stands behind a sign alone.
-    fn number(&mut self, value: u64, max: u16) -> Result<Turn, Stop> {
+    fn number(&mut self, value: u64, max: u16) -> Result<Turn, Stop>
+        ensures { (ops : Ops) (s : State) → IsFront (Some (looks.Number value)) self.old.tokens → IsState (turns.Expects max) self.old s → Steps ops s result self.new }
+    {
         if value < 1 << 63 {
-            self.primary(DraftCell::Int(value as i64), behind(self.tokens), max)
+            let rest = behind(self.tokens);
+            self.primary(DraftCell::Int(value as i64), rest, max)
         } else {
             self.unexpected()
         }
     }
 
     /// A text is the list of its character codes.
-    fn text(&mut self, bytes: &'a [u8], max: u16) -> Result<Turn, Stop> {
-        let start = self.draft.len();
-        let Ok(text) = str::from_utf8(bytes) else {
-            return self.unexpected();
-        };
-        for character in text.chars() {
-            self.push(DraftCell::Func(b".".as_slice(), 2))?;
-            self.push(DraftCell::Int(character as i64))?;
+    fn text(&mut self, bytes: &'a [u8], max: u16) -> Result<Turn, Stop>
+        ensures { (ops : Ops) (s : State) → IsFront (Some (looks.Text bytes.entry)) self.old.tokens → IsState (turns.Expects max) self.old s → Steps ops s result self.new }
+    {
+        match str::from_utf8(bytes) {
+            Ok(text) => self.code_list(text, max),
+            Err(_) => self.unexpected(),
         }
+    }
+
+    fn code_list(&mut self, text: &str, max: u16) -> Result<Turn, Stop>
+        ensures turn { IfOk result (λ t. t ≡ turns.Has (length self.old.pieces) 0 max) }
+        ensures ok { OnOk result (self.new ≡ record self.old { tokens = drop 1 self.old.tokens; pieces = (self.old.pieces ++ code_pieces (chars text.now)) ++ (grammar.empty_list ∷ []) ∷ [] }) }
+        ensures err { IfErr result (λ e. e ≡ stops.NoMemory) }
+    {
+        let start = self.draft.len();
+        self.codes(text)?;
         self.push(DraftCell::Atom(b"[]".as_slice()))?;
         self.tokens = behind(self.tokens);
         Ok(has(start, max))
     }
 
-    fn word(&mut self, ops: &OpTable, name: &'a [u8], max: u16) -> Result<Turn, Stop> {
-        if is_call(behind(self.tokens)) {
-            return self.call(name, max);
+    fn codes(&mut self, text: &str) -> Result<(), Stop>
+        ensures ok { OnOk result (self.new ≡ record self.old { pieces = self.old.pieces ++ code_pieces (chars text.now) }) }
+        ensures err { IfErr result (λ e. e ≡ stops.NoMemory) }
+    {
+        for character in text.chars() {
+            self.code(character)?;
         }
-        if is_sign(self.tokens) {
-            if let Some(Look::Number(value)) = look_at(behind(self.tokens)) {
-                return self.primary(
-                    DraftCell::Int(negative(value)),
-                    behind(behind(self.tokens)),
-                    max,
-                );
-            }
-        }
-        self.plain_word(ops, name, max)
+        Ok(())
     }
 
-    fn call(&mut self, name: &'a [u8], max: u16) -> Result<Turn, Stop> {
+    fn code(&mut self, character: char) -> Result<(), Stop>
+        ensures ok { OnOk result (self.new ≡ record self.old { pieces = self.old.pieces ++ (grammar.list_cell ∷ []) ∷ (Int (pos character) ∷ []) ∷ [] }) }
+        ensures err { IfErr result (λ e. e ≡ stops.NoMemory) }
+    {
+        self.push(DraftCell::Func(b".".as_slice(), 2))?;
+        self.push(DraftCell::Int(character as i64))
+    }
+
+    fn parentheses(&mut self, max: u16) -> Result<Turn, Stop>
+        ensures turn { IfOk result (λ t. t ≡ turns.Expects 1200) }
+        ensures ok { OnOk result (self.new ≡ record self.old { tokens = drop 1 self.old.tokens; frames = self.old.frames ++ record { construct = constructs.Parentheses; start = length self.old.pieces; max = max } ∷ [] }) }
+        ensures err { IfErr result (λ e. e ≡ stops.NoMemory) }
+    {
+        self.tokens = behind(self.tokens);
+        let start = self.draft.len();
+        self.open(Construct::Parentheses, start, max, CLAUSE)
+    }
+
+    fn word(&mut self, ops: &OpTable, name: &'a [u8], max: u16) -> Result<Turn, Stop>
+        ensures { (s : State) → IsFront (Some (looks.Word name.entry)) self.old.tokens → IsState (turns.Expects max) self.old s → Steps ops.now s result self.new }
+    {
+        let rest = behind(self.tokens);
+        if is_call(rest) {
+            self.call(name, max)
+        } else {
+            match negative_at(self.tokens) {
+                Some(value) => {
+                    let more = behind(rest);
+                    self.primary(DraftCell::Int(value), more, max)
+                }
+                None => self.plain_word(ops, name, max),
+            }
+        }
+    }
+
+    fn call(&mut self, name: &'a [u8], max: u16) -> Result<Turn, Stop>
+        ensures turn { IfOk result (λ t. t ≡ turns.Expects 999) }
+        ensures ok { OnOk result (self.new ≡ record self.old { tokens = drop 1 (drop 1 self.old.tokens); pieces = self.old.pieces ++ (Func name.entry.now 0 ∷ []) ∷ []; frames = self.old.frames ++ record { construct = constructs.Arguments name.entry 0; start = length self.old.pieces; max = max } ∷ [] }) }
+        ensures err { IfErr result (λ e. e ≡ stops.NoMemory) }
+    {
         let start = self.draft.len();
         self.push(DraftCell::Func(name, 0))?;
-        self.tokens = behind(behind(self.tokens));
+        let rest = behind(self.tokens);
+        self.tokens = behind(rest);
         self.open(
             Construct::Arguments { name, before: 0 },
             start,
@@ -169,49 +241,80 @@ impl<'a> Machine<'a> {
     }
 
     /// A prefix operator, where its operand follows, or else an atom.
-    fn plain_word(&mut self, ops: &OpTable, name: &'a [u8], max: u16) -> Result<Turn, Stop> {
-        if let Some(op) = prefix_within(ops, max, name) {
-            if begins_operand(behind(self.tokens), ops, op.right) {
-                let start = self.draft.len();
-                self.push(DraftCell::Func(name, 1))?;
-                self.tokens = behind(self.tokens);
-                return self.open(
-                    Construct::Operand {
-                        priority: op.priority,
-                    },
-                    start,
-                    max,
-                    op.right,
-                );
+    fn plain_word(&mut self, ops: &OpTable, name: &'a [u8], max: u16) -> Result<Turn, Stop>
+        ensures { (s : State) → IsFront (Some (looks.Word name.entry)) self.old.tokens → IsPlain self.old.tokens → IsState (turns.Expects max) self.old s → Steps ops.now s result self.new }
+    {
+        let rest = behind(self.tokens);
+        match prefix_within(ops, max, name) {
+            None => self.primary(DraftCell::Atom(name), rest, max),
+            Some(op) => {
+                if begins_operand(rest, ops, op.right) {
+                    self.prefix(op, name, max)
+                } else {
+                    self.primary(DraftCell::Atom(name), rest, max)
+                }
             }
         }
-        self.primary(DraftCell::Atom(name), behind(self.tokens), max)
     }
 
-    fn list(&mut self, max: u16) -> Result<Turn, Stop> {
-        let tokens = self.tokens;
-        if let Some(Look::ListCloses) = look_at(behind(tokens)) {
-            return self.primary(
-                DraftCell::Atom(b"[]".as_slice()),
-                behind(behind(tokens)),
-                max,
-            );
+    fn prefix(&mut self, op: Prefix, name: &'a [u8], max: u16) -> Result<Turn, Stop>
+        ensures turn { IfOk result (λ t. t ≡ turns.Expects op.right) }
+        ensures ok { OnOk result (self.new ≡ record self.old { tokens = drop 1 self.old.tokens; pieces = self.old.pieces ++ (Func name.entry.now 1 ∷ []) ∷ []; frames = self.old.frames ++ record { construct = constructs.Operand op.priority; start = length self.old.pieces; max = max } ∷ [] }) }
+        ensures err { IfErr result (λ e. e ≡ stops.NoMemory) }
+    {
+        let start = self.draft.len();
+        self.push(DraftCell::Func(name, 1))?;
+        self.tokens = behind(self.tokens);
+        self.open(
+            Construct::Operand {
+                priority: op.priority,
+            },
+            start,
+            max,
+            op.right,
+        )
+    }
+
+    fn list(&mut self, max: u16) -> Result<Turn, Stop>
+        ensures { (ops : Ops) (s : State) → IsFront (Some looks.ListOpens) self.old.tokens → IsState (turns.Expects max) self.old s → Steps ops s result self.new }
+    {
+        let rest = behind(self.tokens);
+        if closes_list(rest) {
+            let more = behind(rest);
+            self.primary(DraftCell::Atom(b"[]".as_slice()), more, max)
+        } else {
+            self.begin_list(max)
         }
+    }
+
+    fn begin_list(&mut self, max: u16) -> Result<Turn, Stop>
+        ensures turn { IfOk result (λ t. t ≡ turns.Expects 999) }
+        ensures ok { OnOk result (self.new ≡ record self.old { tokens = drop 1 self.old.tokens; pieces = self.old.pieces ++ (grammar.list_cell ∷ []) ∷ []; frames = self.old.frames ++ record { construct = constructs.Elements; start = length self.old.pieces; max = max } ∷ [] }) }
+        ensures err { IfErr result (λ e. e ≡ stops.NoMemory) }
+    {
         let start = self.draft.len();
         self.push(DraftCell::Func(b".".as_slice(), 2))?;
         self.tokens = behind(self.tokens);
         self.open(Construct::Elements, start, max, ARGUMENT)
     }
 
-    fn braces(&mut self, max: u16) -> Result<Turn, Stop> {
-        let tokens = self.tokens;
-        if let Some(Look::BracesClose) = look_at(behind(tokens)) {
-            return self.primary(
-                DraftCell::Atom(b"{}".as_slice()),
-                behind(behind(tokens)),
-                max,
-            );
+    fn braces(&mut self, max: u16) -> Result<Turn, Stop>
+        ensures { (ops : Ops) (s : State) → IsFront (Some looks.BracesOpen) self.old.tokens → IsState (turns.Expects max) self.old s → Steps ops s result self.new }
+    {
+        let rest = behind(self.tokens);
+        if closes_braces(rest) {
+            let more = behind(rest);
+            self.primary(DraftCell::Atom(b"{}".as_slice()), more, max)
+        } else {
+            self.begin_braces(max)
         }
+    }
+
+    fn begin_braces(&mut self, max: u16) -> Result<Turn, Stop>
+        ensures turn { IfOk result (λ t. t ≡ turns.Expects 1200) }
+        ensures ok { OnOk result (self.new ≡ record self.old { tokens = drop 1 self.old.tokens; pieces = self.old.pieces ++ (Func (codes "{}") 1 ∷ []) ∷ []; frames = self.old.frames ++ record { construct = constructs.Braces; start = length self.old.pieces; max = max } ∷ [] }) }
+        ensures err { IfErr result (λ e. e ≡ stops.NoMemory) }
+    {
         let start = self.draft.len();
         self.push(DraftCell::Func(b"{}".as_slice(), 1))?;
         self.tokens = behind(self.tokens);
@@ -225,21 +328,39 @@ impl<'a> Machine<'a> {
         start: usize,
         priority: u16,
         max: u16,
-    ) -> Result<Turn, Stop> {
-        if let Some(op) = admitted(self.tokens, ops, max, priority) {
-            if self.draft.take_left(start, op.name).is_err() {
-                return Err(Stop::NoMemory);
-            }
-            self.tokens = behind(self.tokens);
-            return self.open(
-                Construct::Operand {
-                    priority: op.priority,
-                },
-                start,
-                max,
-                op.right,
-            );
+    ) -> Result<Turn, Stop>
+        ensures { (s : State) → IsState (turns.Has start priority max) self.old s → Steps ops.now s result self.new }
+    {
+        match admitted(self.tokens, ops, max, priority) {
+            Some(op) => self.infix(op, start, max),
+            None => self.term_ends(ops),
         }
+    }
+
+    /// The term is the left operand of an infix operator.
+    fn infix(&mut self, op: Infix<'a>, start: usize, max: u16) -> Result<Turn, Stop>
+        ensures turn { IfOk result (λ t. t ≡ turns.Expects op.entry.right) }
+        ensures ok { OnOk result (self.new ≡ record self.old { tokens = drop 1 self.old.tokens; pieces = slice_set self.old.pieces start (Func op.entry.name.now 2 ∷ slice_index_or self.old.pieces start []); frames = self.old.frames ++ record { construct = constructs.Operand op.entry.priority; start = start; max = max } ∷ [] }) }
+        ensures err { IfErr result (λ e. e ≡ stops.NoMemory) }
+    {
+        if self.draft.take_left(start, op.name).is_err() {
+            return Err(Stop::NoMemory);
+        }
+        self.tokens = behind(self.tokens);
+        self.open(
+            Construct::Operand {
+                priority: op.priority,
+            },
+            start,
+            max,
+            op.right,
+        )
+    }
+
+    /// No infix operator takes the term in.
+    fn term_ends(&mut self, ops: &OpTable) -> Result<Turn, Stop>
+        ensures { (s : State) → IsEnded ops.now self.old s → Steps ops.now s result self.new }
+    {
         match self.frames.pop() {
             None => self.end(ops),
             Some(frame) => self.close(ops, frame),
@@ -482,17 +603,5 @@ fn has(start: usize, max: u16) -> Turn
         start,
         priority: 0,
         max,
-    }
-}
-
-/// The negative of a number of at most 2 ^ 63.
-fn negative(value: u64) -> i64
-    requires { value ≤ 2 ^ 63 }
-    ensures { result ≡ neg_ℤ (pos value) }
-{
-    if value < 1 << 63 {
-        -(value as i64)
-    } else {
-        i64::MIN
     }
 }

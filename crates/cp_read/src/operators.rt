@@ -1,8 +1,9 @@
-ghost use Rattle.std.specs.Prelude.{◌≡◌, ℕ, List, drop, option_map};
+ghost use Rattle.std.specs.Prelude.{◌≡◌, ℕ, true, Some, List, drop, option_map};
+ghost use Rattle.cp_read.specs.declared.look.Look.TheVariants as looks;
 ghost use Rattle.cp_ops.specs.Operators.{left_of, right_of, look_up};
 ghost use Rattle.cp_read.specs.Lexemes.{Lexeme, lexemes};
 ghost use Rattle.cp_read.specs.Grammar as grammar;
-ghost use Rattle.cp_read.specs.Look.{prefix_seen, infix_seen};
+ghost use Rattle.cp_read.specs.Look.{IsFront, prefix_seen, infix_seen};
 
 use crate::look::{Look, behind, is_sign, look_at};
 use cp_lex::Token;
@@ -149,7 +150,8 @@ fn is_prefix_within(ops: &OpTable, max: u16, name: &[u8]) -> bool
 
 /// Whether the first token opens a call.
 pub(crate) fn is_call(tokens: &[Token]) -> bool
-    ensures { (seen : List (List ℕ)) → result ≡ grammar.is_call (lexemes seen tokens.now) }
+    ensures call { (seen : List (List ℕ)) → result ≡ grammar.is_call (lexemes seen tokens.now) }
+    ensures front { result ≡ true → IsFront (Some looks.CallOpens) tokens.now }
 {
     match look_at(tokens) {
         Some(Look::CallOpens) => true,

@@ -13,7 +13,7 @@ use Rattle.cp_read.proofs.lemmas.Settles.{Agrees, agrees, Agrees-bind, Agrees-lo
 
 -- ---- the grammar without the numbers that bound it
 
-any_takes : (ops : Ops) → Takes (any_term ops)
+pub any_takes : (ops : Ops) → Takes (any_term ops)
 any_takes ops max ls = Takes-term ops (suc (length ls)) max ls
 
 any_agrees : (ops : Ops) (bound max : ℕ) (ls : List Lexeme) → length ls < bound → Agrees (any_term ops max ls) (any_term ops max ls)
