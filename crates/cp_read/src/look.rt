@@ -1,4 +1,4 @@
-ghost use Rattle.std.specs.Prelude.{◌≡◌, ◌+◌, ◌≤◌, ◌^◌, neg_ℤ, pos, nat_eq, drop, codes};
+ghost use Rattle.std.specs.Prelude.{◌≡◌, ◌+◌, ◌<◌, ◌≤◌, ◌^◌, neg_ℤ, pos, nat_eq, drop, codes};
 ghost use Rattle.std.specs.Str.{is_utf8, bytes_eq};
 ghost use Rattle.cp_lex.specs.declared.token.TokenKind.TheVariants as kinds;
 ghost use Rattle.cp_read.specs.Look.{IsLook, IsFront, IsNegative, signs, is_minus};
@@ -193,4 +193,12 @@ fn negative(value: u64) -> i64
     } else {
         i64::MIN
     }
+}
+
+/// A number below 2 ^ 63.
+pub(crate) fn positive(value: u64) -> i64
+    requires { value < 2 ^ 63 }
+    ensures { result ≡ pos value }
+{
+    value as i64
 }

@@ -20,7 +20,7 @@ use crate::behind::{
 use crate::draft::{Draft, DraftCell};
 use crate::error::SyntaxWhy;
 use crate::frame::{Construct, Frame, Stop, Turn};
-use crate::look::{Look, behind, look_at, negative_at};
+use crate::look::{Look, behind, look_at, negative_at, positive};
 use crate::operators::{
     ARGUMENT, Infix, Prefix, admitted, begins_operand, infix_at, is_call, prefix_within,
 };
@@ -150,10 +150,18 @@ impl<'a> Machine<'a> {
     {
         if value < 1 << 63 {
             let rest = behind(self.tokens);
-            self.primary(DraftCell::Int(value as i64), rest, max)
+            self.integer(positive(value), rest, max)
         } else {
             self.unexpected()
         }
+    }
+
+    fn integer(&mut self, value: i64, rest: &'a [Token], max: u16) -> Result<Turn, Stop>
+        ensures turn { IfOk result (λ t. t ≡ turns.Has (length self.old.pieces) 0 max) }
+        ensures ok { OnOk result (self.new ≡ record self.old { tokens = rest.entry.now; pieces = self.old.pieces ++ (Int value ∷ []) ∷ [] }) }
+        ensures err { IfErr result (λ e. e ≡ stops.NoMemory) }
+    {
+        self.primary(DraftCell::Int(value), rest, max)
     }
 
     /// A text is the list of its character codes.
@@ -216,7 +224,7 @@ impl<'a> Machine<'a> {
             match negative_at(self.tokens) {
                 Some(value) => {
                     let more = behind(rest);
-                    self.primary(DraftCell::Int(value), more, max)
+                    self.integer(value, more, max)
                 }
                 None => self.plain_word(ops, name, max),
             }

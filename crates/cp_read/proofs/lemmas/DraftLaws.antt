@@ -1,12 +1,12 @@
 -- The pieces of a draft.
-use Rattle.std.proofs.Common.{◌≡◌, ℕ, ◌<◌, List, [], ◌∷◌, ◌++◌, length, map, sym, ◌∙◌, ap, subst}
+use Rattle.std.proofs.Common.{◌≡◌, ℕ, ◌<◌, List, [], ◌∷◌, ◌++◌, length, map, refl, sym, ◌∙◌, ap, subst}
 use Rattle.std.proofs.lemmas.List.{reverse-append, map-set, get_or-map, length-map}
-use Rattle.std.specs.Prelude.{reverse, slice_set, slice_index_or}
+use Rattle.std.specs.Prelude.{reverse, slice_set, slice_index_or, codes, pos}
 use Rattle.std.specs.Borrow.{Bor}
 use Rattle.cp_term.specs.declared.cell.Cell.{Cell}
-use Rattle.cp_term.specs.declared.cell.Cell.TheVariants.{Func}
+use Rattle.cp_term.specs.declared.cell.Cell.TheVariants.{Int, Func}
 use Rattle.cp_read.specs.declared.draft.Piece.{Piece}
-use Rattle.cp_read.specs.Drafts.{cell_seen, operator_cell, piece_seen}
+use Rattle.cp_read.specs.Drafts.{cell_seen, operator_cell, piece_seen, code_pieces}
 
 -- one more operator stands in front
 pub taken : (a b : Piece) (name : Bor (List ℕ)) → b.operators.items ≡ a.operators.items ++ name ∷ [] → b.cell ≡ a.cell →
@@ -34,3 +34,8 @@ put_at ps pieces at b view none =
     map-set piece_seen ps at b
     ∙ ap (λ (ns : List (Bor (List ℕ))). slice_set (map piece_seen ps) at (map operator_cell (reverse ns) ++ cell_seen b.cell ∷ [])) none
     ∙ ap (λ (l : List (List Cell)). slice_set l at (cell_seen b.cell ∷ [])) view
+
+-- one more character code
+pub code_pieces-more : (cs : List ℕ) (c : ℕ) → code_pieces (cs ++ c ∷ []) ≡ code_pieces cs ++ (Func (codes ".") 2 ∷ []) ∷ (Int (pos c) ∷ []) ∷ []
+code_pieces-more [] c = refl
+code_pieces-more (d ∷ cs) c = ap (λ (ps : List (List Cell)). (Func (codes ".") 2 ∷ []) ∷ (Int (pos d) ∷ []) ∷ ps) (code_pieces-more cs c)

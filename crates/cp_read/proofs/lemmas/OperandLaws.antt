@@ -1,15 +1,18 @@
 -- Steps where a term has to come.
 use Rattle.std.proofs.Common.{◌≡◌, ℕ, suc, ◌+◌, ◌*◌, ◌-◌, ◌^◌, ◌<◌, ◌≤◌, Bool, true, false, ◌&&◌, List, [], ◌∷◌, ◌++◌, length, refl, sym, ◌∙◌, ap, subst, append_assoc, append-nil, arith, Ok, Err}
 use Rattle.std.proofs.lemmas.Bool.Decides.{Decides-ltb}
-use Rattle.std.specs.Prelude.{reverse, drop, slice_set, slice_index_or, if◌then◌else◌, Result, Option, Some, None, nat_lt, codes, pos, neg_ℤ, ℤ}
+use Rattle.std.proofs.lemmas.Bool.{le-ltb}
+use Rattle.std.specs.Prelude.{reverse, drop, slice_set, slice_index_or, if◌then◌else◌, Result, IfOk, IfErr, OnOk, Option, Some, None, nat_lt, codes, pos, neg_ℤ, ℤ}
 use Rattle.std.specs.Borrow.{Bor}
-use Rattle.std.specs.Str.{chars}
+use Rattle.std.specs.Str.{chars, is_utf8}
+use Rattle.std.proofs.lemmas.List.{reverse-append}
 use Rattle.std.specs.List.{flat_map}
 use Rattle.cp_term.specs.declared.cell.Cell.{Cell}
 use Rattle.cp_term.specs.declared.cell.Cell.TheVariants.{Var, Int, Atom, Func}
 use Rattle.cp_lex.specs.declared.token.Token.{Token}
 use Rattle.cp_lex.specs.declared.token.TokenKind.TheVariants as kinds
 use Rattle.cp_ops.specs.Operators.{Ops, look_up}
+use Rattle.cp_read.specs.declared.look.Look.{Look}
 use Rattle.cp_read.specs.declared.look.Look.TheVariants as looks
 use Rattle.cp_read.specs.declared.operators.Prefix as declared
 use Rattle.cp_read.specs.declared.operators.Infix as declared_infix
@@ -19,21 +22,22 @@ use Rattle.cp_read.specs.declared.frame.Frame.{Frame}
 use Rattle.cp_read.specs.declared.frame.Turn.{Turn}
 use Rattle.cp_read.specs.declared.frame.Turn.TheVariants as turns
 use Rattle.cp_read.specs.declared.frame.Stop as frame
+use Rattle.cp_read.specs.declared.frame.Stop.TheVariants as stops
 use Rattle.cp_read.specs.Look.{IsFront, IsNegative, signs, is_integer, prefix_seen, infix_seen}
 use Rattle.cp_read.specs.Lexemes.{Lexeme, leaf, number, name, call_opens, list_opens, list_closes, braces_open, braces_close, lexemes, seen_behind, code_list}
-use Rattle.cp_read.specs.Grammar.{Stop, ◌>>=◌, Read, primary, unexpected, Infix, admitted_by, infix_at, prefix_by, begins_operand, behind_bracket, behind_brace, is_call, operand, any_term, empty_list, list_cell}
+use Rattle.cp_read.specs.Grammar.{Stop, ◌>>=◌, Read, primary, unexpected, Infix, admitted, admitted_by, infix_at, prefix_by, begins_operand, behind_bracket, behind_brace, is_call, operand, any_term, empty_list, list_cell}
 use Rattle.cp_read.specs.Derivation.{is_plain}
 use Rattle.cp_read.specs.Drafts.{cells_of, code_pieces}
 use Rattle.cp_read.specs.Progress.{Progress}
 use Rattle.cp_read.specs.SeenNames.{Knows, number_of, seen_with}
 use Rattle.cp_read.specs.Machine.{Open, operand_of, parentheses, braces, arguments_of, elements_of, closed, max_of, State, expects, has, meaning, weight}
-use Rattle.cp_read.specs.Stands.{IsState, IsPlain, IsOpen, Stacked, Filled, Keeps, Steps, Refuses}
+use Rattle.cp_read.specs.Stands.{IsState, IsPlain, IsEnded, IsEnding, IsClosing, IsOpen, Stacked, Filled, Keeps, Steps, Refuses}
 use Rattle.cp_read.proofs.lemmas.Shrinks.{Leaves, Leaves-operand, FewerInfix, fewer_admitted}
 use Rattle.cp_read.proofs.lemmas.MachineLaws.{any_takes, primary_step, no_operand_step, open_step, operator_step, opens_call, opens_parentheses, opens_by_call, closes_list, closes_braces, opens_list, opens_braces, opens_operand, no_operand, no_prefix}
 use Rattle.cp_read.proofs.lemmas.CloseLaws.{has_come, refused_so, no_more, cells_of-append}
-use Rattle.cp_read.proofs.lemmas.MoreLaws.{term_comes, set_behind}
+use Rattle.cp_read.proofs.lemmas.MoreLaws.{term_comes, set_behind, made}
 use Rattle.cp_read.proofs.lemmas.KnowsLaws.{number-is, knows-behind}
-use Rattle.cp_read.proofs.lemmas.Fronts.{front_variable, front_text, front_number, front_word, front_call, front_opens, front_list_opens, front_braces_open}
+use Rattle.cp_read.proofs.lemmas.Fronts.{front_variable, front_text, front_number, front_word, front_call, front_end, front_opens, front_closes, front_list_opens, front_list_closes, front_braces_open, front_braces_close, front_comma, front_bar}
 
 operand_takes : (ops : Ops) (max : ℕ) (ls : List Lexeme) (x : Read) → operand ops (any_term ops) max ls ≡ Ok x → length (x.rest) < length ls
 operand_takes ops max [] x e = absurd (let none : ⊥ = cc in none)
@@ -82,6 +86,15 @@ operand_refused ops s r result max (list, os, knows, stack, is) reads fault =
     refused_so ops s result r list (unexpected (lexemes list r.tokens)) (fault list)
     (λ e h. ap (meaning ops) is ∙ no_operand_step ops os max (lexemes list r.tokens) e (reads list ∙ h))
 
+-- a step that makes a term of one cell, unless memory runs out
+pub cell_made : (ops : Ops) (s : State) (r t : Progress) (result : Result Turn frame.Stop) (max : ℕ) (rest ts : List Token) (made_cell cell : Cell) →
+    IfOk result (λ x. x ≡ turns.Has (length r.pieces) 0 max) → OnOk result (t ≡ record r { tokens = rest; pieces = r.pieces ++ (made_cell ∷ []) ∷ [] }) → IfErr result (λ e. e ≡ stops.NoMemory) →
+    rest ≡ ts → made_cell ≡ cell → Keeps ops s (turns.Has (length r.pieces) 0 max) (record r { tokens = ts; pieces = r.pieces ++ (cell ∷ []) ∷ [] }) → Steps ops s result t
+cell_made ops s r t result max rest ts made_cell cell same now err tokens cells k =
+    made ops s result (turns.Has (length r.pieces) 0 max) t (record r { tokens = rest; pieces = r.pieces ++ (made_cell ∷ []) ∷ [] }) same now err
+    (subst (λ (us : List Token). Keeps ops s (turns.Has (length r.pieces) 0 max) (record r { tokens = us; pieces = r.pieces ++ (made_cell ∷ []) ∷ [] })) (sym tokens)
+    (subst (λ (c : Cell). Keeps ops s (turns.Has (length r.pieces) 0 max) (record r { tokens = ts; pieces = r.pieces ++ (c ∷ []) ∷ [] })) (sym cells) k))
+
 -- ---- one token
 
 module _ (ops : Ops) (s : State) (r : Progress) (max : ℕ) where
@@ -104,12 +117,12 @@ module _ (ops : Ops) (s : State) (r : Progress) (max : ℕ) where
       ap (operand ops (any_term ops) max) (front_number n list r.tokens front)
       ∙ ap (λ (b : Bool). if b then primary (Int (pos n) ∷ []) (lexemes list (drop 1 r.tokens)) else unexpected (number n ∷ lexemes list (drop 1 r.tokens))) ((Decides-ltb n (2 ^ 63)).1 small))
 
-  pub number_refused : (n : ℕ) (result : Result Turn frame.Stop) → nat_lt n (2 ^ 63) ≡ false → IsFront (Some (looks.Number n)) r.tokens → IsState (turns.Expects max) r s →
+  pub number_refused : (n : ℕ) (result : Result Turn frame.Stop) → 2 ^ 63 ≤ n → IsFront (Some (looks.Number n)) r.tokens → IsState (turns.Expects max) r s →
       ((list : List (List ℕ)) → Refuses result (unexpected (lexemes list r.tokens)) (lexemes list r.tokens)) → Steps ops s result r
   number_refused n result large front h fault =
       operand_refused ops s r result max h (λ list.
       ap (operand ops (any_term ops) max) (front_number n list r.tokens front)
-      ∙ ap (λ (b : Bool). if b then primary (Int (pos n) ∷ []) (lexemes list (drop 1 r.tokens)) else unexpected (number n ∷ lexemes list (drop 1 r.tokens))) large
+      ∙ ap (λ (b : Bool). if b then primary (Int (pos n) ∷ []) (lexemes list (drop 1 r.tokens)) else unexpected (number n ∷ lexemes list (drop 1 r.tokens))) (le-ltb n (2 ^ 63) large)
       ∙ sym (ap (λ (ls : List Lexeme). unexpected ls) (front_number n list r.tokens front))) fault
 
   codes-is : (cs : List ℕ) → flat_map (λ c. Func (codes ".") 2 ∷ Int (pos c) ∷ []) cs ++ empty_list ∷ [] ≡ cells_of (code_pieces cs ++ (empty_list ∷ []) ∷ [])
@@ -258,6 +271,54 @@ module _ (ops : Ops) (s : State) (r : Progress) (max : ℕ) where
         behind_front _ list (front_word called list r.tokens front),
       )) refl refl
 
+-- ---- tokens that begin no term
+
+abbrev pub begins_none : Look → Bool
+begins_none looks.Closes = true
+begins_none looks.ListCloses = true
+begins_none looks.BracesClose = true
+begins_none looks.Comma = true
+begins_none looks.Bar = true
+begins_none looks.ClauseEnds = true
+begins_none looks.Stray = true
+begins_none l = false
+
+by_front : (ops : Ops) (max : ℕ) (l : Lexeme) (ls rest : List Lexeme) → ls ≡ l ∷ rest → operand ops (any_term ops) max (l ∷ rest) ≡ unexpected (l ∷ rest) → operand ops (any_term ops) max ls ≡ unexpected ls
+by_front ops max l ls rest e h = ap (operand ops (any_term ops) max) e ∙ h ∙ sym (ap (λ (ls : List Lexeme). unexpected ls) e)
+
+no_term : (ops : Ops) (max : ℕ) (l : Look) (list : List (List ℕ)) (ts : List Token) → begins_none l ≡ true → IsFront (Some l) ts → operand ops (any_term ops) max (lexemes list ts) ≡ unexpected (lexemes list ts)
+no_term ops max looks.Closes list ts b front = by_front ops max _ (lexemes list ts) _ (front_closes list ts front) refl
+no_term ops max looks.ListCloses list ts b front = by_front ops max _ (lexemes list ts) _ (front_list_closes list ts front) refl
+no_term ops max looks.BracesClose list ts b front = by_front ops max _ (lexemes list ts) _ (front_braces_close list ts front) refl
+no_term ops max looks.Comma list ts b front = by_front ops max _ (lexemes list ts) _ (front_comma list ts front) refl
+no_term ops max looks.Bar list ts b front = by_front ops max _ (lexemes list ts) _ (front_bar list ts front) refl
+no_term ops max looks.ClauseEnds list ts b front = by_front ops max _ (lexemes list ts) _ (front_end list ts front) refl
+no_term ops max looks.Stray list [] b front = absurd front
+no_term ops max looks.Stray list (t ∷ ts) b front = by_front ops max _ (lexemes list (t ∷ ts)) _ (ap (λ (l : Lexeme). l ∷ lexemes (seen_behind list (t.kind)) ts) (front list t ts)) refl
+no_term ops max (looks.Variable called) list ts b front = absurd (let none : ⊥ = cc in none)
+no_term ops max (looks.Text bytes) list ts b front = absurd (let none : ⊥ = cc in none)
+no_term ops max (looks.Number n) list ts b front = absurd (let none : ⊥ = cc in none)
+no_term ops max (looks.Word called) list ts b front = absurd (let none : ⊥ = cc in none)
+no_term ops max looks.CallOpens list ts b front = absurd (let none : ⊥ = cc in none)
+no_term ops max looks.Opens list ts b front = absurd (let none : ⊥ = cc in none)
+no_term ops max looks.ListOpens list ts b front = absurd (let none : ⊥ = cc in none)
+no_term ops max looks.BracesOpen list ts b front = absurd (let none : ⊥ = cc in none)
+
+pub stands_refused : (ops : Ops) (s : State) (r : Progress) (max : ℕ) (l : Look) (result : Result Turn frame.Stop) → begins_none l ≡ true → IsFront (Some l) r.tokens → IsState (turns.Expects max) r s →
+    ((list : List (List ℕ)) → Refuses result (unexpected (lexemes list r.tokens)) (lexemes list r.tokens)) → Steps ops s result r
+stands_refused ops s r max l result b front h fault = operand_refused ops s r result max h (λ list. no_term ops max l list r.tokens b front) fault
+
+no_tokens : (ops : Ops) (max : ℕ) (list : List (List ℕ)) (ts : List Token) → IsFront None ts → operand ops (any_term ops) max (lexemes list ts) ≡ unexpected (lexemes list ts)
+no_tokens ops max list ts e = subst (λ (us : List Token). operand ops (any_term ops) max (lexemes list us) ≡ unexpected (lexemes list us)) (sym e) refl
+
+pub nothing_stands : (ops : Ops) (s : State) (r : Progress) (max : ℕ) (result : Result Turn frame.Stop) → IsFront None r.tokens → IsState (turns.Expects max) r s →
+    ((list : List (List ℕ)) → Refuses result (unexpected (lexemes list r.tokens)) (lexemes list r.tokens)) → Steps ops s result r
+nothing_stands ops s r max result front h fault = operand_refused ops s r result max h (λ list. no_tokens ops max list r.tokens front) fault
+
+pub text_is_utf8 : (bytes : Bor (List ℕ)) (ts : List Token) → IsFront (Some (looks.Text bytes)) ts → is_utf8 bytes.now ≡ true
+text_is_utf8 bytes [] front = absurd front
+text_is_utf8 bytes (t ∷ ts) front = front.1
+
 -- ---- infix operators
 
 index_behind : (before behind : List (List Cell)) (p : List Cell) → slice_index_or (before ++ p ∷ behind) (length before) [] ≡ p
@@ -282,3 +343,33 @@ infix_taken ops s r op start priority max (list, os, before, p ∷ others, fille
     begins refl
     (ap (meaning ops) is ∙ operator_step ops os max left (infix_seen rest op) (sym (front list)))
     (subst (λ (u : State). 3 * length rest + suc (length os) + 1 < weight u) (sym is) (omega (arith, fewer)))
+
+-- no infix operator takes the term in
+pub ended_here : (ops : Ops) (s : State) (r : Progress) (start priority max : ℕ) → IsState (turns.Has start priority max) r s →
+    ((list : List (List ℕ)) → None ≡ admitted_by ops max priority (infix_at ops (lexemes list r.tokens))) → IsEnded ops r s
+ended_here ops s r start priority max (list, os, before, own, filled, knows, stack, pieces, begins, is) none = (list, os, before, own, max, priority, filled, knows, stack, pieces, sym (none list), is)
+
+-- no construct is open
+pub ends_alone : (ops : Ops) (s : State) (r : Progress) → IsEnded ops r s → r.frames ≡ [] → IsEnding ops r s
+ends_alone ops s r (list, [], before, own, max, priority, filled, knows, stack, pieces, none, is) empty =
+    let alone : before ≡ [] = subst (λ (fs : List Frame). Stacked (reverse fs) before []) empty stack in
+    let whole : cells_of own ≡ cells_of r.pieces = ap cells_of (sym (pieces ∙ ap (λ (b : List (List Cell)). b ++ own) alone)) in
+    (
+      list, max, priority, knows,
+      subst (λ (cells : List Cell). admitted ops max (record { cells = cells; priority = priority; rest = lexemes list r.tokens }) ≡ None) whole none,
+      is ∙ ap (λ (cells : List Cell). has [] max (record { cells = cells; priority = priority; rest = lexemes list r.tokens })) whole,
+    )
+ends_alone ops s r (list, o ∷ os, before, own, max, priority, filled, knows, stack, pieces, none, is) empty =
+    absurd (subst (λ (fs : List Frame). Stacked (reverse fs) before (o ∷ os)) empty stack)
+
+-- the innermost construct is this one
+pub closes_innermost : (ops : Ops) (s : State) (r : Progress) (f : Frame) (fs : List Frame) → IsEnded ops r s → r.frames ≡ fs ++ f ∷ [] → IsClosing ops f.construct f.start f.max (record r { frames = fs }) s
+closes_innermost ops s r f fs (list, [], before, own, max, priority, filled, knows, stack, pieces, none, is) popped =
+    absurd (subst (λ (gs : List Frame). Stacked gs before []) (ap (λ (gs : List Frame). reverse gs) popped ∙ reverse-append fs (f ∷ [])) stack)
+closes_innermost ops s r f fs (list, o ∷ os, before, own, max, priority, filled, knows, stack, pieces, none, is) popped =
+    let deeper : Stacked (f ∷ reverse fs) before (o ∷ os) = subst (λ (gs : List Frame). Stacked gs before (o ∷ os)) (ap (λ (gs : List Frame). reverse gs) popped ∙ reverse-append fs (f ∷ [])) stack in
+    (
+      list, os, o, deeper.0, deeper.1, own, max, priority, filled, knows, deeper.5,
+      pieces ∙ ap (λ (b : List (List Cell)). b ++ own) (deeper.2) ∙ append_assoc (deeper.0) (deeper.1) own,
+      deeper.3, deeper.4, none, is,
+    )

@@ -1,56 +1,67 @@
-use Rattle.std.proofs.Common.{rules, ◌≡◌, true, false, ℕ, pos, List, [], ◌∷◌, ◌++◌, length, slice_set, slice_index_or, drop, Ok, Err, IfOk, OnOk, IfErr, Some, codes, ◌+◌, ◌-◌, ◌*◌, ◌<◌, ◌≤◌, ◌/◌, ◌%◌, Bool, nat_eq, nat_lt, bit_and, bit_or, Fits, w8, w32, w64, Bor, MutBor}
-use Rattle.std.specs.Str.{chars}
-use Rattle.cp_term.specs.declared.cell.Cell.TheVariants.{Var, Int, Func}
-use Rattle.cp_ops.specs.Operators.{Ops}
-use Rattle.cp_read.specs.declared.look.Look.TheVariants as looks
-use Rattle.cp_read.specs.Look.{IsFront}
+use Rattle.std.proofs.Common.{◌≡◌, ℕ, List, [], ◌∷◌, ◌++◌, length, ap, subst, sym, ◌∙◌, refl, arith, true, false, Bool}
+use Rattle.std.specs.Prelude.{drop, Some, None, Option, pos, codes, if◌then◌else◌, option_map}
+use Rattle.std.specs.Borrow.{Bor}
+use Rattle.cp_term.specs.declared.cell.Cell.TheVariants.{Var, Int, Atom, Func}
+use Rattle.cp_lex.specs.declared.token.Token.{Token}
+use Rattle.cp_ops.specs.Operators.{look_up}
 use Rattle.cp_read.specs.declared.frame.Turn.TheVariants as turns
-use Rattle.cp_read.specs.declared.frame.Stop.TheVariants as stops
-use Rattle.cp_read.specs.Drafts.{cell_seen, code_pieces}
-use Rattle.cp_read.specs.Lexemes.{lexemes}
-use Rattle.cp_read.specs.Grammar as grammar
-use Rattle.cp_read.specs.SeenNames.{nothing_seen, number_of, seen_with}
 use Rattle.cp_read.specs.declared.frame.Construct.TheVariants as constructs
-use Rattle.cp_read.specs.Machine.{State}
-use Rattle.cp_read.specs.Stands.{IsState, IsPlain, IsEnded, IsEnding, IsClosing, Steps, Refuses}
+use Rattle.cp_read.specs.declared.look.Look.{Look}
+use Rattle.cp_read.specs.declared.look.Look.TheVariants as looks
+use Rattle.cp_read.specs.Look.{IsFront, IsNegative, prefix_seen, infix_seen}
+use Rattle.cp_read.specs.Lexemes.{Lexeme, lexemes}
+use Rattle.cp_read.specs.Grammar.{empty_list, list_cell, behind_bracket, behind_brace, is_call, begins_operand, prefix_by, operand, any_term, unexpected, admitted_by, infix_at}
+use Rattle.cp_read.specs.SeenNames.{number_of, seen_with}
+use Rattle.cp_read.specs.Progress.{Progress}
+use Rattle.cp_read.proofs.lemmas.MoreLaws.{made}
+use Rattle.cp_read.proofs.lemmas.OperandLaws.{variable_comes, parentheses_open, call_parentheses_open, operand_refused, stands_refused}
 use Rattle.cp_read.proofs.machine.Machine.operand_by.Goals as goal
 
--- src/machine.rt:111:5
 pub returns-in-Variable : goal.returns-in-Variable
-returns-in-Variable c = ?
+returns-in-Variable c = λ s front h.
+    made c.args.ops.now s c.variable.result (turns.Has (length c.args.self.now.pieces) 0 c.args.max) c.variable.new.self
+    (record { tokens = drop 1 c.args.self.now.tokens; seen = seen_with c.args.self.now.seen c.in-Variable.name.now; pieces = c.args.self.now.pieces ++ (Var (number_of c.args.self.now.seen c.in-Variable.name.now) ∷ []) ∷ []; frames = c.args.self.now.frames })
+    c.variable.ensures.turn c.variable.ensures.ok c.variable.ensures.err
+    (variable_comes c.args.ops.now s c.args.self.now c.args.max c.in-Variable.name (subst (λ (l : Look). IsFront (Some l) c.args.self.now.tokens) c.in-Variable.is front) h)
 
--- src/machine.rt:111:5
 pub returns-in-CallOpens : goal.returns-in-CallOpens
-returns-in-CallOpens c = ?
+returns-in-CallOpens c = λ s front h.
+    made c.args.ops.now s c.parentheses.result (turns.Expects 1200) c.parentheses.new.self
+    (record c.args.self.now { tokens = drop 1 c.args.self.now.tokens; frames = c.args.self.now.frames ++ record { construct = constructs.Parentheses; start = length c.args.self.now.pieces; max = c.args.max } ∷ [] })
+    c.parentheses.ensures.turn c.parentheses.ensures.ok c.parentheses.ensures.err
+    (call_parentheses_open c.args.ops.now s c.args.self.now c.args.max (subst (λ (l : Look). IsFront (Some l) c.args.self.now.tokens) c.in-CallOpens.is front) h)
 
--- src/machine.rt:111:5
 pub returns-in-Opens : goal.returns-in-Opens
-returns-in-Opens c = ?
+returns-in-Opens c = λ s front h.
+    made c.args.ops.now s c.parentheses-in-Opens.result (turns.Expects 1200) c.parentheses-in-Opens.new.self
+    (record c.args.self.now { tokens = drop 1 c.args.self.now.tokens; frames = c.args.self.now.frames ++ record { construct = constructs.Parentheses; start = length c.args.self.now.pieces; max = c.args.max } ∷ [] })
+    c.parentheses-in-Opens.ensures.turn c.parentheses-in-Opens.ensures.ok c.parentheses-in-Opens.ensures.err
+    (parentheses_open c.args.ops.now s c.args.self.now c.args.max (subst (λ (l : Look). IsFront (Some l) c.args.self.now.tokens) c.in-Opens.is front) h)
 
--- src/machine.rt:111:5
 pub returns-in-Closes : goal.returns-in-Closes
-returns-in-Closes c = ?
+returns-in-Closes c = λ s front h.
+    stands_refused c.args.ops.now s c.args.self.now c.args.max looks.Closes c.unexpected.result refl (subst (λ (l : Look). IsFront (Some l) c.args.self.now.tokens) c.in-Closes.is front) h c.unexpected.ensures
 
--- src/machine.rt:111:5
 pub returns-in-ListCloses : goal.returns-in-ListCloses
-returns-in-ListCloses c = ?
+returns-in-ListCloses c = λ s front h.
+    stands_refused c.args.ops.now s c.args.self.now c.args.max looks.ListCloses c.unexpected-in-ListCloses.result refl (subst (λ (l : Look). IsFront (Some l) c.args.self.now.tokens) c.in-ListCloses.is front) h c.unexpected-in-ListCloses.ensures
 
--- src/machine.rt:111:5
 pub returns-in-BracesClose : goal.returns-in-BracesClose
-returns-in-BracesClose c = ?
+returns-in-BracesClose c = λ s front h.
+    stands_refused c.args.ops.now s c.args.self.now c.args.max looks.BracesClose c.unexpected-in-BracesClose.result refl (subst (λ (l : Look). IsFront (Some l) c.args.self.now.tokens) c.in-BracesClose.is front) h c.unexpected-in-BracesClose.ensures
 
--- src/machine.rt:111:5
 pub returns-in-Comma : goal.returns-in-Comma
-returns-in-Comma c = ?
+returns-in-Comma c = λ s front h.
+    stands_refused c.args.ops.now s c.args.self.now c.args.max looks.Comma c.unexpected-in-Comma.result refl (subst (λ (l : Look). IsFront (Some l) c.args.self.now.tokens) c.in-Comma.is front) h c.unexpected-in-Comma.ensures
 
--- src/machine.rt:111:5
 pub returns-in-Bar : goal.returns-in-Bar
-returns-in-Bar c = ?
+returns-in-Bar c = λ s front h.
+    stands_refused c.args.ops.now s c.args.self.now c.args.max looks.Bar c.unexpected-in-Bar.result refl (subst (λ (l : Look). IsFront (Some l) c.args.self.now.tokens) c.in-Bar.is front) h c.unexpected-in-Bar.ensures
 
--- src/machine.rt:111:5
 pub returns-in-ClauseEnds : goal.returns-in-ClauseEnds
-returns-in-ClauseEnds c = ?
+returns-in-ClauseEnds c = λ s front h.
+    stands_refused c.args.ops.now s c.args.self.now c.args.max looks.ClauseEnds c.unexpected-in-ClauseEnds.result refl (subst (λ (l : Look). IsFront (Some l) c.args.self.now.tokens) c.in-ClauseEnds.is front) h c.unexpected-in-ClauseEnds.ensures
 
--- src/machine.rt:111:5
 pub returns-in-Stray : goal.returns-in-Stray
-returns-in-Stray c = ?
+returns-in-Stray c = λ s front h.
+    stands_refused c.args.ops.now s c.args.self.now c.args.max looks.Stray c.unexpected-in-Stray.result refl (subst (λ (l : Look). IsFront (Some l) c.args.self.now.tokens) c.in-Stray.is front) h c.unexpected-in-Stray.ensures
