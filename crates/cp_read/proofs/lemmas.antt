@@ -13,3 +13,4 @@ pub mod MoreLaws
 pub mod KnowsLaws
 pub mod Fronts
 pub mod OperandLaws
+pub mod RunLaws

@@ -1,5 +1,5 @@
 -- How what the code holds while it reads a clause stands for a state.
-use Rattle.std.specs.Prelude.{◌≡◌, ◌<◌, ℕ, ⊤, List, [], ◌∷◌, ◌++◌, length, reverse, drop, true, None, Result, Ok, Err, codes}
+use Rattle.std.specs.Prelude.{◌≡◌, ◌<◌, ◌+◌, ◌*◌, ℕ, ⊤, List, [], ◌∷◌, ◌++◌, length, reverse, drop, true, None, Result, Ok, Err, codes}
 use Rattle.cp_term.specs.declared.cell.Cell.{Cell}
 use Rattle.cp_term.specs.declared.cell.Cell.TheVariants.{Func}
 use Rattle.cp_ops.specs.Operators.{Ops}
@@ -15,9 +15,9 @@ use Rattle.cp_read.specs.Derivation.{is_plain}
 use Rattle.cp_read.specs.Look.{signs}
 use Rattle.cp_read.specs.Drafts.{cells_of}
 use Rattle.cp_read.specs.Progress.{Progress}
-use Rattle.cp_read.specs.SeenNames.{Knows}
+use Rattle.cp_read.specs.SeenNames.{Knows, nothing_seen}
 use Rattle.cp_read.specs.Lexemes.{Lexeme, lexemes}
-use Rattle.cp_read.specs.Grammar.{Stop, stopped, Read, primary, admitted, list_cell}
+use Rattle.cp_read.specs.Grammar.{Stop, stopped, Read, primary, admitted, clause, list_cell}
 use Rattle.cp_read.specs.Machine.{Open, operand_of, parentheses, braces, arguments_of, elements_of, tail_of, State, expects, has, meaning, weight}
 
 -- the construct is this one, where these are the pieces that were read of it
@@ -97,3 +97,27 @@ abbrev pub Refuses : Result Turn frame.Stop → Result Read Stop → List Lexeme
 Refuses (Ok turn) given ls = ⊥
 Refuses (Err (stops.Fault why)) given ls = given ≡ Err (stopped why ls)
 Refuses (Err stops.NoMemory) given ls = ⊥
+
+-- ---- a whole run
+
+-- a machine that has read nothing
+abbrev pub IsFresh : Progress → Type 0
+IsFresh r = (r.seen ≡ nothing_seen) × (r.pieces ≡ []) × (r.frames ≡ [])
+
+-- what the first state gives is what the reading gives from here
+abbrev pub Reached : Ops → State → Turn → Progress → Type 0
+Reached ops s (turns.Expects max) r = (t : State) × IsState (turns.Expects max) r t × (meaning ops s ≡ meaning ops t)
+Reached ops s (turns.Has start priority max) r = (t : State) × IsState (turns.Has start priority max) r t × (meaning ops s ≡ meaning ops t)
+Reached ops s turns.Ended r = (list : List (List ℕ)) × (meaning ops s ≡ primary (cells_of r.pieces) (lexemes list r.tokens))
+
+-- a bound on the steps that are left
+abbrev pub left_to_do : Turn → Progress → ℕ
+left_to_do (turns.Expects max) r = 3 * length r.tokens + length r.frames + 2
+left_to_do (turns.Has start priority max) r = 3 * length r.tokens + length r.frames + 1
+left_to_do turns.Ended r = 0
+
+-- The clause is in the draft, or there is none; want of memory says nothing.
+abbrev pub Gives : Ops → List Token → Result Unit frame.Stop → Progress → Type 0
+Gives ops ts (Ok u) r = (list : List (List ℕ)) × (clause ops (lexemes [] ts) ≡ primary (cells_of r.pieces) (lexemes list r.tokens))
+Gives ops ts (Err (stops.Fault why)) r = (list : List (List ℕ)) × (clause ops (lexemes [] ts) ≡ Err (stopped why (lexemes list r.tokens)))
+Gives ops ts (Err stops.NoMemory) r = ⊤

@@ -12,7 +12,7 @@ ghost use Rattle.cp_read.specs.Grammar as grammar;
 ghost use Rattle.cp_read.specs.SeenNames.{nothing_seen, number_of, seen_with};
 ghost use Rattle.cp_read.specs.declared.frame.Construct.TheVariants as constructs;
 ghost use Rattle.cp_read.specs.Machine.{State};
-ghost use Rattle.cp_read.specs.Stands.{IsState, IsPlain, IsEnded, IsEnding, IsClosing, Steps, Refuses};
+ghost use Rattle.cp_read.specs.Stands.{IsFresh, Gives, IsState, IsPlain, IsEnded, IsEnding, IsClosing, Steps, Refuses};
 
 use crate::behind::{
     Behind, behind_argument, behind_element, closes, closes_braces, closes_list, ends_clause,
@@ -77,21 +77,26 @@ impl<'a> Machine<'a> {
     }
 
     /// Reads the clause.
-    pub(crate) fn run(&mut self, ops: &OpTable) -> Result<(), Stop> {
+    pub(crate) fn run(&mut self, ops: &OpTable) -> Result<(), Stop>
+        requires { IsFresh self.old }
+        ensures { Gives ops.now self.old.tokens result self.new }
+    {
         let mut turn = Turn::Expects { max: CLAUSE };
         loop {
             match turn {
                 Turn::Ended => return Ok(()),
-                Turn::Expects { max } => {
-                    turn = self.operand(ops, max)?;
-                }
+                Turn::Expects { max } => match self.operand(ops, max) {
+                    Ok(next) => turn = next,
+                    Err(stop) => return Err(stop),
+                },
                 Turn::Has {
                     start,
                     priority,
                     max,
-                } => {
-                    turn = self.go_on(ops, start, priority, max)?;
-                }
+                } => match self.go_on(ops, start, priority, max) {
+                    Ok(next) => turn = next,
+                    Err(stop) => return Err(stop),
+                },
             }
         }
     }

@@ -1,4 +1,6 @@
 use Rattle.std.proofs.Common.{◌≡◌, ℕ, List, [], ◌∷◌, ◌++◌, length, ap, subst, sym, ◌∙◌, refl, arith, true, false, Bool}
+use Rattle.std.proofs.lemmas.Int.{to_z-of_z}
+use Rattle.std.proofs.Common.{rules, w64}
 use Rattle.std.specs.Prelude.{drop, Some, None, Option, pos, codes, if◌then◌else◌, option_map}
 use Rattle.std.specs.Borrow.{Bor}
 use Rattle.cp_term.specs.declared.cell.Cell.TheVariants.{Var, Int, Atom, Func}
@@ -21,7 +23,7 @@ pub returns-then-value : goal.returns-then-value
 returns-then-value c = λ ops s front h.
     cell_made ops s c.args.self.now c.integer.new.self c.integer.result c.args.max c.behind-rest.result.now (drop 1 c.args.self.now.tokens) _ (Int (pos c.args.value))
     c.integer.ensures.turn c.integer.ensures.ok c.integer.ensures.err
-    (c.behind-rest.ensures ∙ ap (λ (p : Progress). drop 1 p.tokens) c.self.view_is) (ap Int c.positive.ensures)
+    (c.behind-rest.ensures ∙ ap (λ (p : Progress). drop 1 p.tokens) c.self.view_is) (ap Int (to_z-of_z w64 c.positive.result (search rules) ∙ c.positive.ensures))
     (number_comes ops s c.args.self.now c.args.max c.args.value (omega (arith, c.if-value.true)) front h)
 
 pub returns-else-value : goal.returns-else-value

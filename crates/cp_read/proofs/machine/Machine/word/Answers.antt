@@ -1,4 +1,6 @@
 use Rattle.std.proofs.Common.{◌≡◌, ℕ, ℤ, List, [], ◌∷◌, ◌++◌, length, ap, subst, sym, ◌∙◌, refl, arith, true, false, Bool}
+use Rattle.std.proofs.lemmas.Int.{to_z-of_z}
+use Rattle.std.proofs.Common.{rules, w64}
 use Rattle.std.specs.Prelude.{drop, Some, None, Option, pos, codes, if◌then◌else◌, option_map}
 use Rattle.std.specs.Borrow.{Bor}
 use Rattle.cp_term.specs.declared.cell.Cell.TheVariants.{Var, Int, Atom, Func}
@@ -30,7 +32,7 @@ returns-in-Some c = λ s front h.
     let rest : c.behind-rest.result.now ≡ drop 1 c.args.self.now.tokens = c.behind-rest.ensures ∙ ap (λ (p : Progress). drop 1 p.tokens) c.self.view_is in
     cell_made c.args.ops.now s c.args.self.now c.integer.new.self c.integer.result c.args.max c.behind-more.result.now (drop 1 (drop 1 c.args.self.now.tokens)) _ (Int c.in-Some.value)
     c.integer.ensures.turn c.integer.ensures.ok c.integer.ensures.err
-    (c.behind-more.ensures ∙ ap (λ (ts : List Token). drop 1 ts) rest) refl
+    (c.behind-more.ensures ∙ ap (λ (ts : List Token). drop 1 ts) rest) (ap Int (to_z-of_z w64 c.in-Some.value (search rules)))
     (negative_comes c.args.ops.now s c.args.self.now c.args.max c.args.name c.in-Some.value front
     (subst (λ (p : Progress). IsNegative (Some c.in-Some.value) p.tokens) c.self.view_is (subst (λ (o : Option ℤ). IsNegative o c.self.inside.tokens.now) c.in-Some.is c.negative_at.ensures)) h)
 
