@@ -14,3 +14,5 @@ pub mod KnowsLaws
 pub mod Fronts
 pub mod OperandLaws
 pub mod RunLaws
+pub mod FitLaws
+pub mod ReadLaws

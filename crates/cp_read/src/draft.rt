@@ -1,7 +1,10 @@
-ghost use Rattle.std.specs.Prelude.{◌≡◌, ℕ, ◌<◌, List, [], ◌∷◌, ◌++◌, length, slice_set, slice_index_or, OnOk};
+ghost use Rattle.std.specs.Prelude.{◌≡◌, ℕ, ◌<◌, ◌≤◌, None, IfSome, IfOk, List, [], ◌∷◌, ◌++◌, length, slice_set, slice_index_or, OnOk};
 ghost use Rattle.cp_term.specs.declared.cell.Cell.TheVariants.{Func};
-ghost use Rattle.cp_read.specs.Drafts.{cell_seen};
+ghost use Rattle.cp_read.specs.Drafts.{cell_seen, piece_seen, cells_of};
+ghost use Rattle.cp_term.specs.declared.cell.Cell.{Cell};
+ghost use Rattle.cp_read.specs.Filling.{IsFitting, IsFilled, IsWithin};
 
+use crate::bounds::Bounds;
 use cp_term::{Cell, Cells, Name};
 use std::alloc::{AllocError, Global};
 use std::marker::Model;
@@ -105,41 +108,56 @@ impl<'a> Draft<'a> {
         };
     }
 
-    /// The cells, unless there are more than these bounds admit.
-    pub(crate) fn into_cells(self, cells: u32, name: u32) -> Result<Option<Cells>, AllocError> {
+    /// The cells, unless they are past the bounds.
+    pub(crate) fn into_cells(self, bounds: Bounds) -> Result<Option<Cells>, AllocError>
+        ensures { IfOk result (λ o. IsWithin bounds o (cells_of self.entry)) }
+    {
         let mut list = Cells::new(self.alloc);
+        let mut within = true;
         for piece in self.pieces.iter() {
-            for operator in piece.operators.iter().rev() {
-                if !add(
-                    self.alloc,
-                    &mut list,
-                    DraftCell::Func(operator, 2),
-                    cells,
-                    name,
-                )? {
-                    return Ok(None);
-                }
-            }
-            if !add(self.alloc, &mut list, piece.cell, cells, name)? {
-                return Ok(None);
-            }
+            within = add_piece(self.alloc, &mut list, piece, within, bounds)?;
         }
-        Ok(Some(list))
+        if within { Ok(Some(list)) } else { Ok(None) }
     }
 }
 
-/// Adds a cell, unless it is past the bounds.
+/// Adds the cells of a piece, if it and all before it are within the bounds.
+fn add_piece(
+    alloc: Global,
+    list: &mut Cells,
+    piece: &Piece,
+    within: bool,
+    bounds: Bounds,
+) -> Result<bool, AllocError>
+    ensures { (cells : List Cell) → IsFilled bounds within list.old cells → IfOk result (λ b. IsFilled bounds b list.new (cells ++ piece_seen piece.now)) }
+{
+    let mut within = within;
+    let mut left = piece.operators.len();
+    while left > 0 {
+        left -= 1;
+        let operator = piece.operators[left];
+        within = add(alloc, list, DraftCell::Func(operator, 2), within, bounds)?;
+    }
+    add(alloc, list, piece.cell, within, bounds)
+}
+
+/// Adds a cell, if it and all before it are within the bounds.
 fn add(
     alloc: Global,
     list: &mut Cells,
     cell: DraftCell,
-    cells: u32,
-    name: u32,
-) -> Result<bool, AllocError> {
-    if list.len() >= cells {
+    within: bool,
+    bounds: Bounds,
+) -> Result<bool, AllocError>
+    ensures { (cells : List Cell) → IsFilled bounds within list.old cells → IfOk result (λ b. IsFilled bounds b list.new (cells ++ cell_seen cell.entry ∷ [])) }
+{
+    if !within {
         return Ok(false);
     }
-    match cell_of(alloc, cell, name)? {
+    if list.len() >= bounds.cells {
+        return Ok(false);
+    }
+    match cell_of(alloc, cell, bounds.name)? {
         Some(cell) => {
             list.push(cell)?;
             Ok(true)
@@ -149,7 +167,9 @@ fn add(
 }
 
 /// The cell, unless its name or number of arguments is past the bounds.
-fn cell_of(alloc: Global, cell: DraftCell, name: u32) -> Result<Option<Cell>, AllocError> {
+fn cell_of(alloc: Global, cell: DraftCell, name: u32) -> Result<Option<Cell>, AllocError>
+    ensures { IfOk result (λ o. IsFitting o (cell_seen cell.entry) name) }
+{
     match cell {
         DraftCell::Var(number) => Ok(Some(Cell::Var(number))),
         DraftCell::Int(value) => Ok(Some(Cell::Int(value))),
@@ -170,7 +190,10 @@ fn cell_of(alloc: Global, cell: DraftCell, name: u32) -> Result<Option<Cell>, Al
 }
 
 /// The name, unless it has more bytes than these.
-fn name_of(alloc: Global, text: &[u8], most: u32) -> Result<Option<Name>, AllocError> {
+fn name_of(alloc: Global, text: &[u8], most: u32) -> Result<Option<Name>, AllocError>
+    ensures some { IfOk result (λ o. IfSome o (λ n. (n ≡ text.now) × (length text.now ≤ most))) }
+    ensures none { IfOk result (λ o. o ≡ None → most < length text.now) }
+{
     if text.len() > most as usize {
         return Ok(None);
     }

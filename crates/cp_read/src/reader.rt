@@ -1,4 +1,8 @@
-ghost use Rattle.std.specs.Prelude.{◌≡◌, ◌≤◌, None};
+ghost use Rattle.std.specs.Prelude.{◌≡◌, ◌≤◌, ◌-◌, None, IfOk, drop, length};
+ghost use Rattle.cp_read.specs.Drafts.{cells_of};
+ghost use Rattle.cp_read.specs.Filling.{IsWithin};
+ghost use Rattle.cp_read.specs.Clauses.{line_of, last_line, fault_line};
+ghost use Rattle.cp_read.specs.Reading.{Answers, ReadsNext, Finds, Finishes};
 
 use crate::bounds::Bounds;
 use crate::clause::ReadClause;
@@ -50,62 +54,116 @@ impl Reader {
     }
 
     /// The next clause, or `None` where no token is left. After a refusal the reader answers it again.
-    pub fn next_clause(&mut self, ops: &OpTable) -> Result<Option<ReadClause>, ReadError> {
-        if let Some(refusal) = self.failed {
-            return Err(refusal);
-        }
-        match self.read(ops) {
-            Ok(clause) => Ok(clause),
-            Err(refusal) => {
-                self.failed = Some(refusal);
-                Err(refusal)
-            }
+    pub fn next_clause(&mut self, ops: &OpTable) -> Result<Option<ReadClause>, ReadError>
+        ensures { Answers result self.old self.new ops.now }
+    {
+        let failed = self.failed;
+        match failed {
+            Some(refusal) => Err(refusal),
+            None => match self.read(ops) {
+                Ok(clause) => Ok(clause),
+                Err(refusal) => {
+                    self.failed = Some(refusal);
+                    Err(refusal)
+                }
+            },
         }
     }
 
-    fn read(&mut self, ops: &OpTable) -> Result<Option<ReadClause>, ReadError> {
+    fn read(&mut self, ops: &OpTable) -> Result<Option<ReadClause>, ReadError>
+        ensures { ReadsNext result self.old self.new ops.now }
+    {
         let (_, tokens) = self.tokens.as_slice().split_at(self.at as usize);
-        let Some((first, _)) = tokens.split_first() else {
+        if tokens.is_empty() {
             return Ok(None);
-        };
-        let line = first.line;
-        let mut machine = Machine::new(self.alloc, tokens);
-        match machine.run(ops) {
-            Err(Stop::NoMemory) => Err(ReadError::NoMemory),
-            Err(Stop::Fault(why)) => Err(ReadError::Syntax {
-                line: line_at(tokens, machine.left()),
-                why,
-            }),
-            Ok(()) => {
-                let left = machine.left();
-                match term_of(machine.into_draft(), self.bounds) {
-                    Ok(Some(term)) => {
-                        self.at = self.tokens.len() - left as u32;
-                        Ok(Some(ReadClause { term, line }))
-                    }
-                    Ok(None) => Err(ReadError::Syntax {
-                        line,
-                        why: SyntaxWhy::TooLarge,
-                    }),
-                    Err(_) => Err(ReadError::NoMemory),
-                }
+        }
+        let line = first_line(tokens);
+        match find(self.alloc, tokens, self.bounds, ops) {
+            Ok((term, left)) => {
+                self.at = self.tokens.len() - left as u32;
+                Ok(Some(ReadClause { term, line }))
             }
+            Err(refusal) => Err(refusal),
         }
     }
 }
 
+/// The clause at the front of these tokens, and how many tokens are left behind it.
+fn find(
+    alloc: Global,
+    tokens: &[Token],
+    bounds: Bounds,
+    ops: &OpTable,
+) -> Result<(Term, usize), ReadError>
+    ensures { Finds result tokens.now bounds ops.now }
+{
+    let mut machine = Machine::new(alloc, tokens);
+    match machine.run(ops) {
+        Ok(()) => {
+            let left = machine.left();
+            finish(machine.into_draft(), left, tokens, bounds)
+        }
+        Err(Stop::NoMemory) => Err(ReadError::NoMemory),
+        Err(Stop::Fault(why)) => Err(ReadError::Syntax {
+            line: line_at(tokens, machine.left()),
+            why,
+        }),
+    }
+}
+
+/// The term in the draft, unless it is past the bounds.
+fn finish(
+    draft: Draft,
+    left: usize,
+    tokens: &[Token],
+    bounds: Bounds,
+) -> Result<(Term, usize), ReadError>
+    ensures { Finishes result (cells_of draft.entry) left tokens.now bounds }
+{
+    match term_of(draft, bounds) {
+        Ok(Some(term)) => Ok((term, left)),
+        Ok(None) => Err(ReadError::Syntax {
+            line: first_line(tokens),
+            why: SyntaxWhy::TooLarge,
+        }),
+        Err(_) => Err(ReadError::NoMemory),
+    }
+}
+
 /// The line of the first of the last tokens, which are so many, or of the last token where they are none.
-fn line_at(tokens: &[Token], left: usize) -> u32 {
-    let at = if left == 0 { 1 } else { left };
-    match tokens.get(tokens.len().saturating_sub(at)) {
-        Some(token) => token.line,
+fn line_at(tokens: &[Token], left: usize) -> u32
+    ensures { result ≡ fault_line tokens.now (drop (length tokens.now - left) tokens.now) }
+{
+    let (_, rest) = tokens.split_at(tokens.len().saturating_sub(left));
+    match rest.split_first() {
+        Some((token, _)) => token.line,
+        None => last_line(tokens),
+    }
+}
+
+fn first_line(tokens: &[Token]) -> u32
+    ensures { result ≡ line_of tokens.now }
+{
+    match tokens.split_first() {
+        Some((token, _)) => token.line,
+        None => 0,
+    }
+}
+
+fn last_line(tokens: &[Token]) -> u32
+    ensures { result ≡ last_line tokens.now }
+{
+    match tokens.split_last() {
+        Some((token, _)) => token.line,
         None => 0,
     }
 }
 
 /// The term, unless it is past the bounds.
-fn term_of(draft: Draft, bounds: Bounds) -> Result<Option<Term>, AllocError> {
-    match draft.into_cells(bounds.cells, bounds.name)? {
+fn term_of(draft: Draft, bounds: Bounds) -> Result<Option<Term>, AllocError>
+    ensures { IfOk result (λ o. IsWithin bounds o (cells_of draft.entry)) }
+{
+    match draft.into_cells(bounds)? {
         None => Ok(None),
         Some(cells) => match Term::from_cells(cells) {
             Ok(term) => Ok(Some(term)),

@@ -1,0 +1,87 @@
+-- One more cell, within the bounds or past them.
+use Rattle.std.proofs.Common.{◌≡◌, ◌<◌, ◌≤◌, ℕ, suc, ◌+◌, Bool, true, false, cond, ◌&&◌, List, [], ◌∷◌, ◌++◌, length, map, refl, sym, ◌∙◌, ap, subst, arith, append_assoc, append-nil}
+use Rattle.std.proofs.lemmas.Bool.{le-leb, leb-true, and_parts, and_from}
+use Rattle.std.proofs.lemmas.List.{reverse-append}
+use Rattle.std.proofs.lemmas.List.Folds.{list_all-append}
+use Rattle.std.specs.Prelude.{nat_le, Option, Some, None, Result, Ok, Err, IfOk, reverse}
+use Rattle.std.specs.List.{list_all}
+use Rattle.cp_term.specs.declared.cell.Cell.{Cell}
+use Rattle.cp_read.specs.declared.bounds.Bounds.{Bounds}
+use Rattle.cp_read.specs.Clauses.{cell_fits, fits}
+use Rattle.cp_read.specs.Filling.{IsFitting, IsFilled, IsWithin}
+
+false_or : (b : Bool) → (b ≡ true → ⊥) → b ≡ false
+false_or true h = absurd (h refl)
+false_or false h = refl
+
+not_both : (b : Bool) → b ≡ true → b ≡ false → ⊥
+not_both true h g = let none : ⊥ = cc in none
+not_both false h g = let none : ⊥ = cc in none
+
+longer : (cells : List Cell) (c : Cell) → length (cells ++ c ∷ []) ≡ suc (length cells)
+longer [] c = refl
+longer (d ∷ cells) c = ap suc (longer cells c)
+
+module _ (bounds : Bounds) (cells : List Cell) (c : Cell) where
+  parts : fits bounds (cells ++ c ∷ []) ≡ true → (nat_le (length (cells ++ c ∷ [])) (bounds.cells) ≡ true) × (list_all (cell_fits (bounds.name)) cells ≡ true) × (cell_fits (bounds.name) c ≡ true)
+  parts h =
+      let p = and_parts (nat_le (length (cells ++ c ∷ [])) (bounds.cells)) (list_all (cell_fits (bounds.name)) (cells ++ c ∷ [])) h in
+      let q = and_parts (list_all (cell_fits (bounds.name)) cells) (list_all (cell_fits (bounds.name)) (c ∷ [])) (sym (list_all-append (cell_fits (bounds.name)) cells (c ∷ [])) ∙ p.1) in
+      (p.0, q.0, (and_parts (cell_fits (bounds.name) c) true (q.1)).0)
+
+  shorter : fits bounds (cells ++ c ∷ []) ≡ true → fits bounds cells ≡ true
+  shorter h =
+      let p = parts h in
+      let le : length (cells ++ c ∷ []) ≤ bounds.cells = leb-true (length (cells ++ c ∷ [])) (bounds.cells) (p.0) in
+      and_from (nat_le (length cells) (bounds.cells)) (list_all (cell_fits (bounds.name)) cells) (le-leb (length cells) (bounds.cells) (omega (arith, le, longer cells c))) (p.1)
+
+  pub past : fits bounds cells ≡ false → fits bounds (cells ++ c ∷ []) ≡ false
+  past h = false_or (fits bounds (cells ++ c ∷ [])) (λ g. not_both (fits bounds cells) (shorter g) h)
+
+  pub too_many : bounds.cells ≤ length cells → fits bounds (cells ++ c ∷ []) ≡ false
+  too_many h = false_or (fits bounds (cells ++ c ∷ [])) (λ g.
+      let p = parts g in
+      let le : length (cells ++ c ∷ []) ≤ bounds.cells = leb-true (length (cells ++ c ∷ [])) (bounds.cells) (p.0) in
+      omega (arith, h, le, longer cells c))
+
+  pub unfit : cell_fits (bounds.name) c ≡ false → fits bounds (cells ++ c ∷ []) ≡ false
+  unfit h = false_or (fits bounds (cells ++ c ∷ [])) (λ g. not_both (cell_fits (bounds.name) c) ((parts g).2) h)
+
+  pub one_more : fits bounds cells ≡ true → length cells < bounds.cells → cell_fits (bounds.name) c ≡ true → fits bounds (cells ++ c ∷ []) ≡ true
+  one_more h lt g =
+      let p = and_parts (nat_le (length cells) (bounds.cells)) (list_all (cell_fits (bounds.name)) cells) h in
+      and_from (nat_le (length (cells ++ c ∷ [])) (bounds.cells)) (list_all (cell_fits (bounds.name)) (cells ++ c ∷ []))
+      (le-leb (length (cells ++ c ∷ [])) (bounds.cells) (omega (arith, lt, longer cells c)))
+      (list_all-append (cell_fits (bounds.name)) cells (c ∷ []) ∙ and_from (list_all (cell_fits (bounds.name)) cells) (cell_fits (bounds.name) c && true) (p.1) (and_from (cell_fits (bounds.name) c) true g refl))
+
+-- the steps of `add`
+pub stays_past : (bounds : Bounds) (within : Bool) (list cells : List Cell) (c : Cell) → within ≡ false → IsFilled bounds within list cells → IsFilled bounds false list (cells ++ c ∷ [])
+stays_past bounds true list cells c e h = absurd (not_both true refl e)
+stays_past bounds false list cells c e h = past bounds cells c h
+
+pub gets_past : (bounds : Bounds) (within : Bool) (list cells : List Cell) (c : Cell) → bounds.cells ≤ length list → IsFilled bounds within list cells → IsFilled bounds false list (cells ++ c ∷ [])
+gets_past bounds true list cells c e h = too_many bounds cells c (subst (λ (l : List Cell). bounds.cells ≤ length l) (h.0) e)
+gets_past bounds false list cells c e h = past bounds cells c h
+
+pub is_unfit : (bounds : Bounds) (within : Bool) (list cells : List Cell) (c : Cell) → cell_fits (bounds.name) c ≡ false → IsFilled bounds within list cells → IsFilled bounds false list (cells ++ c ∷ [])
+is_unfit bounds true list cells c e h = unfit bounds cells c e
+is_unfit bounds false list cells c e h = past bounds cells c h
+
+pub is_added : (bounds : Bounds) (within : Bool) (list cells new : List Cell) (d c : Cell) → within ≡ true → length list < bounds.cells → IsFitting (Some d) c (bounds.name) → new ≡ list ++ d ∷ [] → IsFilled bounds within list cells →
+    IsFilled bounds true new (cells ++ c ∷ [])
+is_added bounds true list cells new d c e lt (same, fitting) now h = (
+  now ∙ ap (λ (l : List Cell). l ++ d ∷ []) (h.0) ∙ ap (λ (x : Cell). cells ++ x ∷ []) same,
+  one_more bounds cells c (h.1) (subst (λ (l : List Cell). length l < bounds.cells) (h.0) lt) fitting,
+)
+is_added bounds false list cells new d c e lt fitting now h = absurd (not_both false e refl)
+
+pub nothing_filled : (bounds : Bounds) → IsFilled bounds true [] []
+nothing_filled bounds = (refl, refl)
+
+pub is_within : (bounds : Bounds) (within : Bool) (list cells : List Cell) → within ≡ true → IsFilled bounds within list cells → IsWithin bounds (Some list) cells
+is_within bounds true list cells e h = h
+is_within bounds false list cells e h = absurd (not_both false e refl)
+
+pub is_past : (bounds : Bounds) (within : Bool) (list cells : List Cell) → within ≡ false → IsFilled bounds within list cells → IsWithin bounds None cells
+is_past bounds true list cells e h = absurd (not_both true refl e)
+is_past bounds false list cells e h = h
