@@ -126,12 +126,12 @@ fn add_piece(
     alloc: Global,
     list: &mut Cells,
     piece: &Piece,
-    within: bool,
+    before: bool,
     bounds: Bounds,
 ) -> Result<bool, AllocError>
-    ensures { (cells : List Cell) → IsFilled bounds within list.old cells → IfOk result (λ b. IsFilled bounds b list.new (cells ++ piece_seen piece.now)) }
+    ensures { (cells : List Cell) → IsFilled bounds before list.old cells → IfOk result (λ b. IsFilled bounds b list.new (cells ++ piece_seen piece.now)) }
 {
-    let mut within = within;
+    let mut within = before;
     let mut left = piece.operators.len();
     while left > 0 {
         left -= 1;

@@ -1,9 +1,14 @@
 -- One more cell, within the bounds or past them.
 use Rattle.std.proofs.Common.{◌≡◌, ◌<◌, ◌≤◌, ℕ, suc, ◌+◌, Bool, true, false, cond, ◌&&◌, List, [], ◌∷◌, ◌++◌, length, map, refl, sym, ◌∙◌, ap, subst, arith, append_assoc, append-nil}
 use Rattle.std.proofs.lemmas.Bool.{le-leb, leb-true, and_parts, and_from}
-use Rattle.std.proofs.lemmas.List.{reverse-append}
+use Rattle.std.proofs.lemmas.List.{reverse-append, map-append}
+use Rattle.std.proofs.Math.Seq.{drop-length, drop-cons, take-suc}
+use Rattle.std.specs.Borrow.{Bor}
+use Rattle.cp_read.specs.declared.draft.Piece.{Piece}
+use Rattle.cp_read.specs.Drafts.{operator_cell, piece_seen, cells_of}
+use Rattle.cp_read.proofs.lemmas.CloseLaws.{cells_of-append}
 use Rattle.std.proofs.lemmas.List.Folds.{list_all-append}
-use Rattle.std.specs.Prelude.{nat_le, Option, Some, None, Result, Ok, Err, IfOk, reverse}
+use Rattle.std.specs.Prelude.{nat_le, Option, Some, None, Result, Ok, Err, IfOk, reverse, drop, take, get_or}
 use Rattle.std.specs.List.{list_all}
 use Rattle.cp_term.specs.declared.cell.Cell.{Cell}
 use Rattle.cp_read.specs.declared.bounds.Bounds.{Bounds}
@@ -76,7 +81,7 @@ is_added bounds true list cells new d c e lt (same, fitting) now h = (
 is_added bounds false list cells new d c e lt fitting now h = absurd (not_both false e refl)
 
 pub nothing_filled : (bounds : Bounds) → IsFilled bounds true [] []
-nothing_filled bounds = (refl, refl)
+nothing_filled bounds = (refl, and_from (nat_le 0 (bounds.cells)) true (le-leb 0 (bounds.cells) (omega arith)) refl)
 
 pub is_within : (bounds : Bounds) (within : Bool) (list cells : List Cell) → within ≡ true → IsFilled bounds within list cells → IsWithin bounds (Some list) cells
 is_within bounds true list cells e h = h
@@ -85,3 +90,27 @@ is_within bounds false list cells e h = absurd (not_both false e refl)
 pub is_past : (bounds : Bounds) (within : Bool) (list cells : List Cell) → within ≡ false → IsFilled bounds within list cells → IsWithin bounds None cells
 is_past bounds true list cells e h = absurd (not_both true refl e)
 is_past bounds false list cells e h = h
+
+-- ---- the operators of a piece, from the last to the first
+
+pub none_yet : (cells : List Cell) (ops : List (Bor (List ℕ))) → cells ++ map operator_cell (reverse (drop (length ops) ops)) ≡ cells
+none_yet cells ops = ap (λ (l : List (Bor (List ℕ))). cells ++ map operator_cell (reverse l)) (drop-length ops) ∙ append-nil cells
+
+pub one_operator : (cells : List Cell) (ops : List (Bor (List ℕ))) (left : ℕ) (op : Bor (List ℕ)) → left < length ops → op ≡ get_or ops left op →
+    (cells ++ map operator_cell (reverse (drop (suc left) ops))) ++ operator_cell op ∷ [] ≡ cells ++ map operator_cell (reverse (drop left ops))
+one_operator cells ops left op within is =
+    append_assoc cells (map operator_cell (reverse (drop (suc left) ops))) (operator_cell op ∷ [])
+    ∙ ap (λ (l : List Cell). cells ++ l) (sym (map-append operator_cell (reverse (drop (suc left) ops)) (op ∷ [])))
+    ∙ ap (λ (l : List (Bor (List ℕ))). cells ++ map operator_cell l) (sym (reverse-append (op ∷ []) (drop (suc left) ops)))
+    ∙ ap (λ (o : Bor (List ℕ)). cells ++ map operator_cell (reverse (o ∷ drop (suc left) ops))) is
+    ∙ ap (λ (l : List (Bor (List ℕ))). cells ++ map operator_cell (reverse l)) (sym (drop-cons ops left op within))
+
+-- ---- pieces in a row
+
+pub piece_more : (pieces : List Piece) (at : ℕ) (p : Piece) → at < length pieces → p ≡ get_or pieces at p →
+    cells_of (map piece_seen (take at pieces)) ++ piece_seen p ≡ cells_of (map piece_seen (take (suc at) pieces))
+piece_more pieces at p within is =
+    sym (cells_of-append (map piece_seen (take at pieces)) (piece_seen p ∷ []) ∙ ap (λ (l : List Cell). cells_of (map piece_seen (take at pieces)) ++ l) (append-nil (piece_seen p)))
+    ∙ ap cells_of (sym (map-append piece_seen (take at pieces) (p ∷ [])))
+    ∙ ap (λ (q : Piece). cells_of (map piece_seen (take at pieces ++ q ∷ []))) is
+    ∙ ap (λ (l : List Piece). cells_of (map piece_seen l)) (sym (take-suc pieces at p within))
