@@ -4,11 +4,13 @@ use Rattle.cp_lex.specs.declared.token.Token.{Token}
 use Rattle.cp_ops.specs.Operators.{Ops}
 use Rattle.cp_term.specs.declared.cell.Cell.{Cell}
 use Rattle.cp_read.specs.declared.bounds.Bounds.{Bounds}
+use Rattle.cp_read.specs.declared.frame.Stop as frame
+use Rattle.cp_read.specs.declared.frame.Stop.TheVariants as stops
 use Rattle.cp_read.specs.declared.error.SyntaxWhy.TheVariants.{TooLarge}
 use Rattle.cp_read.specs.declared.error.ReadError.{ReadError}
 use Rattle.cp_read.specs.declared.error.ReadError.TheVariants.{Syntax, NoMemory}
 use Rattle.cp_read.specs.declared.clause.ReadClause.{ReadClause}
-use Rattle.cp_read.specs.Clauses.{Clause, line_of, fits, clause_of, next_clause}
+use Rattle.cp_read.specs.Clauses.{Clause, line_of, fault_line, fits, clause_of, next_clause}
 pub use Rattle.cp_read.specs.Reader.{Reading}
 
 -- the clause that a call answered, and the tokens that are then left
@@ -43,6 +45,11 @@ ReadsNext (Ok (Some c)) old new ops =
 ReadsNext (Err NoMemory) old new ops = ⊤
 ReadsNext (Err (Syntax line why)) old new ops =
     (next_clause (old.bounds) ops (old.rest) ≡ Err (record { line = line; why = why })) × (new ≡ old)
+
+-- the refusal where reading stops so, with so many of these tokens left
+abbrev pub refusal_of : frame.Stop → ℕ → List Token → ReadError
+refusal_of (stops.Fault why) left ts = Syntax (fault_line ts (drop (length ts - left) ts)) why
+refusal_of stops.NoMemory left ts = NoMemory
 
 -- the clause at the front of these tokens, and how many are left
 abbrev pub Finds : Result (List Cell × ℕ) ReadError → List Token → Bounds → Ops → Type 0

@@ -2,7 +2,7 @@ ghost use Rattle.std.specs.Prelude.{◌≡◌, ◌≤◌, ◌-◌, None, IfOk, d
 ghost use Rattle.cp_read.specs.Drafts.{cells_of};
 ghost use Rattle.cp_read.specs.Filling.{IsWithin};
 ghost use Rattle.cp_read.specs.Clauses.{line_of, last_line, fault_line};
-ghost use Rattle.cp_read.specs.Reading.{Answers, ReadsNext, Finds, Finishes};
+ghost use Rattle.cp_read.specs.Reading.{Answers, ReadsNext, Finds, Finishes, refusal_of};
 
 use crate::bounds::Bounds;
 use crate::clause::ReadClause;
@@ -103,11 +103,23 @@ fn find(
             let left = machine.left();
             finish(machine.into_draft(), left, tokens, bounds)
         }
-        Err(Stop::NoMemory) => Err(ReadError::NoMemory),
-        Err(Stop::Fault(why)) => Err(ReadError::Syntax {
-            line: line_at(tokens, machine.left()),
+        Err(stop) => {
+            let left = machine.left();
+            Err(refusal_at(stop, left, tokens))
+        }
+    }
+}
+
+/// The refusal where reading stops so, with so many of the tokens left.
+fn refusal_at(stop: Stop, left: usize, tokens: &[Token]) -> ReadError
+    ensures { result ≡ refusal_of stop left tokens.now }
+{
+    match stop {
+        Stop::NoMemory => ReadError::NoMemory,
+        Stop::Fault(why) => ReadError::Syntax {
+            line: line_at(tokens, left),
             why,
-        }),
+        },
     }
 }
 

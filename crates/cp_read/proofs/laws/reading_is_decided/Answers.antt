@@ -1,5 +1,4 @@
 use Rattle.cp_read.proofs.lemmas.FitLaws.{is_added}
-use Rattle.cp_read.proofs.lemmas.ReadLaws.{finds}
 use Rattle.cp_read.proofs.lemmas.FitLaws.{is_added}
 use Rattle.cp_read.proofs.lemmas.FitLaws.{is_added}
 use Rattle.cp_read.proofs.lemmas.Settles.{decided}
