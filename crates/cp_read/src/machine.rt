@@ -335,13 +335,7 @@ impl<'a> Machine<'a> {
     }
 
     /// Goes on from a term: an infix operator takes it in, or the construct in which it stands does.
-    fn go_on(
-        &mut self,
-        ops: &OpTable,
-        start: usize,
-        priority: u16,
-        max: u16,
-    ) -> Result<Turn, Stop>
+    fn go_on(&mut self, ops: &OpTable, start: usize, priority: u16, max: u16) -> Result<Turn, Stop>
         ensures { (s : State) → IsState (turns.Has start priority max) self.old s → Steps ops.now s result self.new }
     {
         match admitted(self.tokens, ops, max, priority) {

@@ -107,7 +107,7 @@ module _ (ops : Ops) (s : State) (r : Progress) (max : ℕ) where
         seen_behind list (kinds.Variable called.now),
         knows-behind r.seen list called.now knows,
         ap (operand ops (any_term ops) max) (front_variable called list r.tokens front)
-        ∙ ap (λ (n : ℕ). primary (Var n ∷ []) (lexemes (seen_behind list (kinds.Variable called.now)) (drop 1 r.tokens))) (sym (number-is r.seen list called.now knows)),
+            ∙ ap (λ (n : ℕ). primary (Var n ∷ []) (lexemes (seen_behind list (kinds.Variable called.now)) (drop 1 r.tokens))) (sym (number-is r.seen list called.now knows)),
       )) refl refl refl tt
 
   pub number_comes : (n : ℕ) → n < 2 ^ 63 → IsFront (Some (looks.Number n)) r.tokens → IsState (turns.Expects max) r s →
@@ -220,8 +220,7 @@ module _ (ops : Ops) (s : State) (r : Progress) (max : ℕ) where
   call_opens_here called front next h =
       construct_opens ops s r (drop 1 (drop 1 r.tokens)) max 999 (arguments_of called.now 0 [] max) ((Func called.now 0 ∷ []) ∷ []) (constructs.Arguments called 0) h (λ list.
       let two : lexemes list r.tokens ≡ name called.now (signs r.tokens) ∷ call_opens ∷ lexemes list (drop 1 (drop 1 r.tokens)) =
-          front_word called list r.tokens front ∙ ap (λ (ls : List Lexeme). name called.now (signs r.tokens) ∷ ls) (front_call list (drop 1 r.tokens) next) in
-      (
+      front_word called list r.tokens front ∙ ap (λ (ls : List Lexeme). name called.now (signs r.tokens) ∷ ls) (front_call list (drop 1 r.tokens) next) in (
         ap (operand ops (any_term ops) max) two ∙ opens_call ops called.now (signs r.tokens) max (lexemes list (drop 1 (drop 1 r.tokens))),
         subst (λ (ls : List Lexeme). length (lexemes list (drop 1 (drop 1 r.tokens))) < length ls) (sym two) (omega arith),
       )) refl (0, [], refl, refl)
@@ -267,7 +266,7 @@ module _ (ops : Ops) (s : State) (r : Progress) (max : ℕ) where
   prefix_opens called op front plain some begins h =
       construct_opens ops s r (drop 1 r.tokens) max op.right (operand_of (Func called.now 1 ∷ []) op.priority max) ((Func called.now 1 ∷ []) ∷ []) (constructs.Operand op.priority) h (λ list. (
         ap (operand ops (any_term ops) max) (front_word called list r.tokens front)
-        ∙ opens_operand ops max called.now (signs r.tokens) (prefix_seen op) (lexemes list (drop 1 r.tokens)) (plain list) (sym some) (sym (begins list)),
+            ∙ opens_operand ops max called.now (signs r.tokens) (prefix_seen op) (lexemes list (drop 1 r.tokens)) (plain list) (sym some) (sym (begins list)),
         behind_front _ list (front_word called list r.tokens front),
       )) refl refl
 
@@ -353,9 +352,11 @@ ended_here ops s r start priority max (list, os, before, own, filled, knows, sta
 pub ends_alone : (ops : Ops) (s : State) (r : Progress) → IsEnded ops r s → r.frames ≡ [] → IsEnding ops r s
 ends_alone ops s r (list, [], before, own, max, priority, filled, knows, stack, pieces, none, is) empty =
     let alone : before ≡ [] = subst (λ (fs : List Frame). Stacked (reverse fs) before []) empty stack in
-    let whole : cells_of own ≡ cells_of r.pieces = ap cells_of (sym (pieces ∙ ap (λ (b : List (List Cell)). b ++ own) alone)) in
-    (
-      list, max, priority, knows,
+    let whole : cells_of own ≡ cells_of r.pieces = ap cells_of (sym (pieces ∙ ap (λ (b : List (List Cell)). b ++ own) alone)) in (
+      list,
+      max,
+      priority,
+      knows,
       subst (λ (cells : List Cell). admitted ops max (record { cells = cells; priority = priority; rest = lexemes list r.tokens }) ≡ None) whole none,
       is ∙ ap (λ (cells : List Cell). has [] max (record { cells = cells; priority = priority; rest = lexemes list r.tokens })) whole,
     )
@@ -367,9 +368,21 @@ pub closes_innermost : (ops : Ops) (s : State) (r : Progress) (f : Frame) (fs : 
 closes_innermost ops s r f fs (list, [], before, own, max, priority, filled, knows, stack, pieces, none, is) popped =
     absurd (subst (λ (gs : List Frame). Stacked gs before []) (ap (λ (gs : List Frame). reverse gs) popped ∙ reverse-append fs (f ∷ [])) stack)
 closes_innermost ops s r f fs (list, o ∷ os, before, own, max, priority, filled, knows, stack, pieces, none, is) popped =
-    let deeper : Stacked (f ∷ reverse fs) before (o ∷ os) = subst (λ (gs : List Frame). Stacked gs before (o ∷ os)) (ap (λ (gs : List Frame). reverse gs) popped ∙ reverse-append fs (f ∷ [])) stack in
-    (
-      list, os, o, deeper.0, deeper.1, own, max, priority, filled, knows, deeper.5,
+    let deeper : Stacked (f ∷ reverse fs) before (o ∷ os) = subst (λ (gs : List Frame). Stacked gs before (o ∷ os)) (ap (λ (gs : List Frame). reverse gs) popped ∙ reverse-append fs (f ∷ [])) stack in (
+      list,
+      os,
+      o,
+      deeper.0,
+      deeper.1,
+      own,
+      max,
+      priority,
+      filled,
+      knows,
+      deeper.5,
       pieces ∙ ap (λ (b : List (List Cell)). b ++ own) (deeper.2) ∙ append_assoc (deeper.0) (deeper.1) own,
-      deeper.3, deeper.4, none, is,
+      deeper.3,
+      deeper.4,
+      none,
+      is,
     )

@@ -44,13 +44,12 @@ clause-is bounds ops ts us list cells e =
 pub finds : (bounds : Bounds) (ops : Ops) (ts us : List Token) (list : List (List ℕ)) (cells : List Cell) (result : Result (List Cell × ℕ) ReadError) → clause ops (lexemes [] ts) ≡ primary cells (lexemes list us) →
     Finishes result cells (length us) ts bounds → Finds result ts bounds ops
 finds bounds ops ts us list cells (Ok found) e (same, left, fit) =
-    let within : length (lexemes list us) ≤ length (lexemes [] ts) = leaves-is (length (lexemes [] ts)) (clause ops (lexemes [] ts)) cells (lexemes list us) e (clause-leaves ops (lexemes [] ts)) in
-    (
+    let within : length (lexemes list us) ≤ length (lexemes [] ts) = leaves-is (length (lexemes [] ts)) (clause ops (lexemes [] ts)) cells (lexemes list us) e (clause-leaves ops (lexemes [] ts)) in (
       omega (arith, within, left, lexemes-length list us, lexemes-length [] ts),
       clause-is bounds ops ts us list cells e
-      ∙ ap (λ (b : Bool). let y : Result Clause Fault = (if b then Ok (record { cells = cells; line = line_of ts; rest = drop (length ts - length us) ts }) else Err (record { line = line_of ts; why = TooLarge })) in y) fit
-      ∙ ap (λ (c : List Cell). let y : Result Clause Fault = Ok (record { cells = c; line = line_of ts; rest = drop (length ts - length us) ts }) in y) (sym same)
-      ∙ ap (λ (n : ℕ). let y : Result Clause Fault = Ok (record { cells = found.0; line = line_of ts; rest = drop (length ts - n) ts }) in y) (sym left),
+          ∙ ap (λ (b : Bool). let y : Result Clause Fault = (if b then Ok (record { cells = cells; line = line_of ts; rest = drop (length ts - length us) ts }) else Err (record { line = line_of ts; why = TooLarge })) in y) fit
+          ∙ ap (λ (c : List Cell). let y : Result Clause Fault = Ok (record { cells = c; line = line_of ts; rest = drop (length ts - length us) ts }) in y) (sym same)
+          ∙ ap (λ (n : ℕ). let y : Result Clause Fault = Ok (record { cells = found.0; line = line_of ts; rest = drop (length ts - n) ts }) in y) (sym left),
     )
 finds bounds ops ts us list cells (Err (Syntax line why)) e (at, because, large) =
     clause-is bounds ops ts us list cells e

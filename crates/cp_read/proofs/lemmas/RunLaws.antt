@@ -53,7 +53,8 @@ pub begins : (ops : Ops) (r : Progress) → IsFresh r → Reached ops (first_sta
 begins ops r (seen, pieces, frames) = (
   first_state r.tokens,
   (
-    [], [],
+    [],
+    [],
     subst (λ (s : Seen). Knows s []) (sym seen) nothing-known,
     subst (λ (fs : List Frame). Stacked (reverse fs) r.pieces []) (sym frames) pieces,
     refl,

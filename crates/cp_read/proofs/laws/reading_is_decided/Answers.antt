@@ -1,6 +1,3 @@
-use Rattle.cp_read.proofs.lemmas.FitLaws.{is_added}
-use Rattle.cp_read.proofs.lemmas.FitLaws.{is_added}
-use Rattle.cp_read.proofs.lemmas.FitLaws.{is_added}
 use Rattle.cp_read.proofs.lemmas.Settles.{decided}
 use Rattle.cp_read.proofs.laws.reading_is_decided.Goals as goal
 

@@ -16,8 +16,8 @@ loop-character-preserved c =
     c.in_ok-code.ensures.ok
     ∙ ap (λ (p : Progress). record p { pieces = p.pieces ++ more }) c.loop-character.invariant
     ∙ ap (λ (ps : List (List Cell)). record c.args.self.now { pieces = ps })
-      (append_assoc c.args.self.now.pieces (code_pieces c.loop-character.yielded) more
-      ∙ ap (λ (ps : List (List Cell)). c.args.self.now.pieces ++ ps) (sym (code_pieces-more c.loop-character.yielded c.in-Some.character)))
+    (append_assoc c.args.self.now.pieces (code_pieces c.loop-character.yielded) more
+    ∙ ap (λ (ps : List (List Cell)). c.args.self.now.pieces ++ ps) (sym (code_pieces-more c.loop-character.yielded c.in-Some.character)))
 
 pub returns-clause-ok : goal.returns-clause-ok
 returns-clause-ok c =

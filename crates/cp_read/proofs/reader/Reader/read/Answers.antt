@@ -12,11 +12,10 @@ returns-in-Ok c =
     let tokens = c.self.inside.tokens in
     let at = c.self.inside.at in
     let ts = c.split_at.result.1.now in
-    let rest = drop (c.len.result - c.in-Ok.left) tokens in
-    (
+    let rest = drop (c.len.result - c.in-Ok.left) tokens in (
       subst (λ (x : Reading). next_clause x.bounds c.args.ops.now x.rest ≡ Ok (Some (record { cells = c.in-Ok.term; line = c.first_line-line.result; rest = rest }))) c.self.view_is
-      (read-ok c.self.inside.bounds c.args.ops.now tokens at c.len.result c.first_line-line.result ts c.is_empty.result (c.in-Ok.term, c.in-Ok.left) (c.self.invariant.0)
-      (c.split_at.ensures.back ∙ ap (λ (l : List Token). drop at l) c.as_slice.ensures) c.is_empty.ensures c.if-is_empty.false c.in-Ok.ensures c.first_line-line.ensures c.len.ensures),
+          (read-ok c.self.inside.bounds c.args.ops.now tokens at c.len.result c.first_line-line.result ts c.is_empty.result (c.in-Ok.term, c.in-Ok.left) (c.self.invariant.0)
+          (c.split_at.ensures.back ∙ ap (λ (l : List Token). drop at l) c.as_slice.ensures) c.is_empty.ensures c.if-is_empty.false c.in-Ok.ensures c.first_line-line.ensures c.len.ensures),
       ap (λ (x : Reading). let y : Reading = record { rest = rest; bounds = x.bounds; failed = x.failed } in y) c.self.view_is,
     )
 
