@@ -1,5 +1,5 @@
 -- The cells of a clause as far as it was read.
-use Rattle.std.specs.Prelude.{◌≡◌, ℕ, Bool, true, false, List, [], ◌∷◌, ◌++◌, map, reverse, length, Option, Some, None, pos, codes}
+use Rattle.std.specs.Prelude.{ℕ, List, [], ◌∷◌, ◌++◌, map, reverse, pos, codes}
 use Rattle.std.specs.Borrow.{Bor}
 use Rattle.cp_term.specs.declared.cell.Cell.{Cell}
 use Rattle.cp_term.specs.declared.cell.Cell.TheVariants.{Var, Int, Atom, Func}

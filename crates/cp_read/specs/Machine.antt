@@ -1,6 +1,6 @@
 -- Reading without recursion: the constructs that are open are kept in a list, and each step takes a lexeme in or closes one
 -- construct. What a state still has to give never changes, so the last state gives what the grammar gives.
-use Rattle.std.specs.Prelude.{ℕ, suc, ◌+◌, ◌*◌, List, [], ◌∷◌, ◌++◌, length, Option, Some, None, Result, Ok, Err, codes}
+use Rattle.std.specs.Prelude.{ℕ, suc, ◌+◌, ◌*◌, List, [], ◌∷◌, ◌++◌, length, Result, Ok, codes}
 use Rattle.cp_term.specs.declared.cell.Cell.{Cell}
 use Rattle.cp_term.specs.declared.cell.Cell.TheVariants.{Func}
 use Rattle.cp_ops.specs.Operators.{Ops}

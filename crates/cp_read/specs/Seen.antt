@@ -1,7 +1,6 @@
 -- The table of the variables of a clause, as contracts see it.
-use Rattle.std.specs.Prelude.{ℕ, ◌+◌, cond, List, [], ◌∷◌, ◌++◌, map, Option, Some, None, unwrap_or, is_some, codes}
+use Rattle.std.specs.Prelude.{ℕ, List, map}
 use Rattle.std.specs.Borrow.{Bor}
-use Rattle.std.specs.Str.{bytes_eq}
 use Rattle.cp_read.specs.declared.variables.Variables.TheInside.{Inside}
 pub use Rattle.cp_read.specs.SeenNames.{Seen}
 

@@ -2,7 +2,7 @@
 use Rattle.std.proofs.Common.{◌≡◌, ℕ, suc, ◌+◌, ◌*◌, ◌<◌, ◌≤◌, Bool, true, false, List, [], ◌∷◌, ◌++◌, length, refl, sym, ◌∙◌, ap, subst, Ok, Err, append_assoc, arith}
 use Rattle.std.specs.Prelude.{Option, Some, None, Result, codes, reverse, drop, if◌then◌else◌}
 use Rattle.cp_term.specs.declared.cell.Cell.{Cell}
-use Rattle.cp_term.specs.declared.cell.Cell.TheVariants.{Atom, Func}
+use Rattle.cp_term.specs.declared.cell.Cell.TheVariants.{Func}
 use Rattle.cp_ops.specs.Operators.{Ops}
 use Rattle.cp_read.specs.declared.frame.Construct.{Construct}
 use Rattle.cp_read.specs.declared.frame.Construct.TheVariants as constructs
@@ -11,19 +11,14 @@ use Rattle.cp_read.specs.declared.frame.Turn.TheVariants as turns
 use Rattle.cp_read.specs.declared.frame.Stop as frame
 use Rattle.cp_read.specs.declared.frame.Stop.TheVariants as stops
 use Rattle.cp_lex.specs.declared.token.Token.{Token}
-use Rattle.cp_lex.specs.declared.token.TokenKind.{TokenKind}
-use Rattle.cp_lex.specs.declared.token.TokenKind.TheVariants as kinds
-use Rattle.cp_read.specs.declared.look.Look.{Look}
-use Rattle.cp_read.specs.declared.look.Look.TheVariants as looks
-use Rattle.cp_read.specs.Look.{IsLook, IsFront}
-use Rattle.cp_read.specs.Lexemes.{Lexeme, lexemes, lexeme_by, seen_behind, closes, braces_close, list_closes, comma, bar, clause_ends}
-use Rattle.cp_read.specs.Grammar.{Stop, stopped, Read, refused, behind_end, ended, primary, admitted, behind_close, behind_brace, behind_bracket, list_cell, empty_list}
+use Rattle.cp_read.specs.Lexemes.{Lexeme, lexemes, seen_behind}
+use Rattle.cp_read.specs.Grammar.{Stop, stopped, Read, refused, behind_end, ended, primary, admitted, behind_close, behind_brace, behind_bracket}
 use Rattle.cp_read.specs.Drafts.{cells_of}
 use Rattle.cp_read.specs.Progress.{Progress}
 use Rattle.cp_read.specs.SeenNames.{Knows}
-use Rattle.cp_read.specs.Machine.{Open, operand_of, parentheses, braces, arguments_of, elements_of, tail_of, closed, max_of, State, has, meaning, weight}
+use Rattle.cp_read.specs.Machine.{Open, operand_of, closed, max_of, State, has, meaning, weight}
 use Rattle.cp_read.specs.Stands.{IsOpen, Stacked, Filled, IsClosing, IsEnding, Keeps, Steps, Refuses}
-use Rattle.cp_read.proofs.lemmas.MachineLaws.{close_step, fault_step, more_step, end_step}
+use Rattle.cp_read.proofs.lemmas.MachineLaws.{close_step, fault_step, end_step}
 
 pub cells_of-append : (a b : List (List Cell)) → cells_of (a ++ b) ≡ cells_of a ++ cells_of b
 cells_of-append [] b = refl

@@ -1,5 +1,5 @@
 -- One more cell, within the bounds or past them.
-use Rattle.std.proofs.Common.{◌≡◌, ◌<◌, ◌≤◌, ℕ, suc, ◌+◌, Bool, true, false, cond, ◌&&◌, List, [], ◌∷◌, ◌++◌, length, map, refl, sym, ◌∙◌, ap, subst, arith, append_assoc, append-nil}
+use Rattle.std.proofs.Common.{◌≡◌, ◌<◌, ◌≤◌, ℕ, suc, Bool, true, false, ◌&&◌, List, [], ◌∷◌, ◌++◌, length, map, refl, sym, ◌∙◌, ap, subst, arith, append_assoc, append-nil}
 use Rattle.std.proofs.lemmas.Bool.{le-leb, leb-true, and_parts, and_from}
 use Rattle.std.proofs.lemmas.List.{reverse-append, map-append}
 use Rattle.std.proofs.Math.Seq.{drop-length, drop-cons, take-suc}
@@ -8,7 +8,7 @@ use Rattle.cp_read.specs.declared.draft.Piece.{Piece}
 use Rattle.cp_read.specs.Drafts.{operator_cell, piece_seen, cells_of}
 use Rattle.cp_read.proofs.lemmas.CloseLaws.{cells_of-append}
 use Rattle.std.proofs.lemmas.List.Folds.{list_all-append}
-use Rattle.std.specs.Prelude.{nat_le, Option, Some, None, Result, Ok, Err, IfOk, reverse, drop, take, get_or}
+use Rattle.std.specs.Prelude.{nat_le, Some, None, reverse, drop, take, get_or}
 use Rattle.std.specs.List.{list_all}
 use Rattle.cp_term.specs.declared.cell.Cell.{Cell}
 use Rattle.cp_read.specs.declared.bounds.Bounds.{Bounds}

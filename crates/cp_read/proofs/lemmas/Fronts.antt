@@ -1,16 +1,15 @@
 -- The first lexeme is what the first token was taken for.
-use Rattle.std.proofs.Common.{◌≡◌, ℕ, ◌+◌, ◌^◌, Bool, true, false, cond, List, [], ◌∷◌, refl, sym, ◌∙◌, ap, ◌&&◌, arith}
+use Rattle.std.proofs.Common.{◌≡◌, ℕ, ◌+◌, ◌^◌, Bool, true, false, cond, List, [], ◌∷◌, refl, sym, ◌∙◌, ap, ◌&&◌}
 use Rattle.std.proofs.lemmas.Bool.{le-leb}
-use Rattle.std.specs.Prelude.{Option, Some, None, drop, codes, nat_le, ◌==◌}
-use Rattle.std.specs.Str.{bytes_eq, is_utf8}
+use Rattle.std.specs.Prelude.{Some, drop, codes, ◌==◌}
+use Rattle.std.specs.Str.{bytes_eq}
 use Rattle.std.specs.Borrow.{Bor}
 use Rattle.cp_term.specs.declared.cell.Cell.TheVariants.{Var}
 use Rattle.cp_lex.specs.declared.token.Token.{Token}
 use Rattle.cp_lex.specs.declared.token.TokenKind.{TokenKind}
 use Rattle.cp_lex.specs.declared.token.TokenKind.TheVariants as kinds
-use Rattle.cp_read.specs.declared.look.Look.{Look}
 use Rattle.cp_read.specs.declared.look.Look.TheVariants as looks
-use Rattle.cp_read.specs.Look.{IsFront, signs, is_minus}
+use Rattle.cp_read.specs.Look.{IsFront, signs}
 use Rattle.cp_read.specs.Lexemes.{Lexeme, leaf, number, name, call_opens, opens, closes, list_opens, list_closes, braces_open, braces_close, comma, bar, clause_ends, stray, lexemes, lexeme_by, seen_behind, variable_number, code_list, is_sign, int_at, bracket}
 
 both : (a b c : Bool) → (a && b && c) ≡ ((a && b) && c)

@@ -1,13 +1,13 @@
 -- The steps of reading without recursion.
-use Rattle.std.proofs.Common.{◌≡◌, ℕ, suc, ◌-◌, ◌<◌, ◌^◌, Bool, true, false, cond, List, [], ◌∷◌, ◌++◌, length, refl, ◌∙◌, ap, subst, arith, Ok, Err, lt-ltb, append_assoc}
-use Rattle.std.specs.Prelude.{Option, Some, None, Result, codes, nat_lt, pos, neg_ℤ}
+use Rattle.std.proofs.Common.{◌≡◌, ℕ, suc, ◌-◌, ◌<◌, Bool, true, false, List, [], ◌∷◌, ◌++◌, length, refl, ◌∙◌, ap, subst, arith, Ok, Err}
+use Rattle.std.specs.Prelude.{Option, Some, None, Result}
 use Rattle.cp_term.specs.declared.cell.Cell.{Cell}
-use Rattle.cp_term.specs.declared.cell.Cell.TheVariants.{Int, Atom, Func}
+use Rattle.cp_term.specs.declared.cell.Cell.TheVariants.{Atom, Func}
 use Rattle.cp_ops.specs.Operators.{Ops, look_up}
-use Rattle.cp_read.specs.Lexemes.{Lexeme, leaf, number, name, call_opens, opens, closes, list_opens, list_closes, braces_open, braces_close, clause_ends}
-use Rattle.cp_read.specs.Grammar.{Stop, ◌>>=◌, Read, primary, Infix, Prefix, prefix_by, refused_by, refused, infix_at, unexpected, admitted, begins_operand, ended, behind_close, behind_brace, behind_bracket, behind_end, Behind, closed_by, comma_and, bar_and, neither, behind_argument, behind_element, arguments, elements, in_brackets, in_braces, tail, named, applied, prefixed, operand, longer, any_term, empty_list, list_cell}
-use Rattle.cp_read.specs.Derivation.{alone, joined, with_prefix, is_plain}
-use Rattle.cp_read.specs.Machine.{Open, operand_of, parentheses, braces, arguments_of, elements_of, tail_of, go_on, all_arguments, all_elements, behind_one, behind_item, closed, max_of, plugged, State, expects, has, meaning}
+use Rattle.cp_read.specs.Lexemes.{Lexeme, number, name, call_opens, opens, list_opens, list_closes, braces_open, braces_close}
+use Rattle.cp_read.specs.Grammar.{Stop, ◌>>=◌, Read, primary, Infix, Prefix, prefix_by, refused, admitted, begins_operand, ended, behind_end, closed_by, comma_and, bar_and, neither, behind_argument, behind_element, arguments, elements, tail, applied, prefixed, operand, longer, any_term, empty_list, list_cell}
+use Rattle.cp_read.specs.Derivation.{joined, is_plain}
+use Rattle.cp_read.specs.Machine.{Open, operand_of, parentheses, braces, arguments_of, elements_of, tail_of, go_on, all_arguments, all_elements, behind_one, behind_item, closed, max_of, plugged, expects, has, meaning}
 use Rattle.cp_read.proofs.lemmas.Shrinks.{Leaves-operand, Takes, Takes-term, FewerBehind, fewer_argument, fewer_element, FewerInfix, fewer_admitted}
 use Rattle.cp_read.proofs.lemmas.Settles.{Agrees, agrees, Agrees-bind, Agrees-longer, Agrees-operand, Agrees-arguments, Agrees-elements, Agrees-tail, settled_term, any_term-level, refusal}
 

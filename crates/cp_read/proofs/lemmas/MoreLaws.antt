@@ -12,12 +12,12 @@ use Rattle.cp_read.specs.declared.frame.Turn.{Turn}
 use Rattle.cp_read.specs.declared.frame.Turn.TheVariants as turns
 use Rattle.cp_read.specs.declared.frame.Stop as frame
 use Rattle.cp_read.specs.declared.frame.Stop.TheVariants as stops
-use Rattle.cp_read.specs.Lexemes.{Lexeme, lexemes}
+use Rattle.cp_read.specs.Lexemes.{lexemes}
 use Rattle.cp_read.specs.Grammar.{Read, Behind, closed_by, comma_and, bar_and, neither, refused, behind_argument, behind_element, list_cell, empty_list}
 use Rattle.cp_read.specs.Drafts.{cells_of}
 use Rattle.cp_read.specs.Progress.{Progress}
 use Rattle.cp_read.specs.SeenNames.{Knows}
-use Rattle.cp_read.specs.Machine.{Open, arguments_of, elements_of, tail_of, closed, max_of, behind_one, behind_item, State, expects, has, meaning, weight}
+use Rattle.cp_read.specs.Machine.{Open, arguments_of, elements_of, tail_of, closed, behind_one, behind_item, State, expects, has, meaning, weight}
 use Rattle.cp_read.specs.Stands.{IsOpen, Stacked, IsClosing, Keeps, Steps, Refuses}
 use Rattle.cp_read.proofs.lemmas.MachineLaws.{close_step, more_step, next_argument, next_element, next_tail}
 use Rattle.cp_read.proofs.lemmas.CloseLaws.{cells_of-append, has_come, closing_refused, no_more, filled_behind}

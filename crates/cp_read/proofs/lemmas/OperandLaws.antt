@@ -1,8 +1,8 @@
 -- Steps where a term has to come.
-use Rattle.std.proofs.Common.{◌≡◌, ℕ, suc, ◌+◌, ◌*◌, ◌-◌, ◌^◌, ◌<◌, ◌≤◌, Bool, true, false, ◌&&◌, List, [], ◌∷◌, ◌++◌, length, refl, sym, ◌∙◌, ap, subst, append_assoc, append-nil, arith, Ok, Err}
+use Rattle.std.proofs.Common.{◌≡◌, ℕ, suc, ◌+◌, ◌*◌, ◌-◌, ◌^◌, ◌<◌, ◌≤◌, Bool, true, false, ◌&&◌, List, [], ◌∷◌, ◌++◌, length, refl, sym, ◌∙◌, ap, subst, append_assoc, append-nil, arith, Ok}
 use Rattle.std.proofs.lemmas.Bool.Decides.{Decides-ltb}
 use Rattle.std.proofs.lemmas.Bool.{le-ltb}
-use Rattle.std.specs.Prelude.{reverse, drop, slice_set, slice_index_or, if◌then◌else◌, Result, IfOk, IfErr, OnOk, Option, Some, None, nat_lt, codes, pos, neg_ℤ, ℤ}
+use Rattle.std.specs.Prelude.{reverse, drop, slice_set, slice_index_or, if◌then◌else◌, Result, IfOk, IfErr, OnOk, Option, Some, None, codes, pos, ℤ}
 use Rattle.std.specs.Borrow.{Bor}
 use Rattle.std.specs.Str.{chars, is_utf8}
 use Rattle.std.proofs.lemmas.List.{reverse-append}
@@ -24,7 +24,7 @@ use Rattle.cp_read.specs.declared.frame.Turn.TheVariants as turns
 use Rattle.cp_read.specs.declared.frame.Stop as frame
 use Rattle.cp_read.specs.declared.frame.Stop.TheVariants as stops
 use Rattle.cp_read.specs.Look.{IsFront, IsNegative, signs, is_integer, prefix_seen, infix_seen}
-use Rattle.cp_read.specs.Lexemes.{Lexeme, leaf, number, name, call_opens, list_opens, list_closes, braces_open, braces_close, lexemes, seen_behind, code_list}
+use Rattle.cp_read.specs.Lexemes.{Lexeme, number, name, call_opens, list_opens, list_closes, braces_open, braces_close, lexemes, seen_behind, code_list}
 use Rattle.cp_read.specs.Grammar.{Stop, ◌>>=◌, Read, primary, unexpected, Infix, admitted, admitted_by, infix_at, prefix_by, begins_operand, behind_bracket, behind_brace, is_call, operand, any_term, empty_list, list_cell}
 use Rattle.cp_read.specs.Derivation.{is_plain}
 use Rattle.cp_read.specs.Drafts.{cells_of, code_pieces}
@@ -33,8 +33,8 @@ use Rattle.cp_read.specs.SeenNames.{Knows, number_of, seen_with}
 use Rattle.cp_read.specs.Machine.{Open, operand_of, parentheses, braces, arguments_of, elements_of, closed, max_of, State, expects, has, meaning, weight}
 use Rattle.cp_read.specs.Stands.{IsState, IsPlain, IsEnded, IsEnding, IsClosing, IsOpen, Stacked, Filled, Keeps, Steps, Refuses}
 use Rattle.cp_read.proofs.lemmas.Shrinks.{Leaves, Leaves-operand, FewerInfix, fewer_admitted}
-use Rattle.cp_read.proofs.lemmas.MachineLaws.{any_takes, primary_step, no_operand_step, open_step, operator_step, opens_call, opens_parentheses, opens_by_call, closes_list, closes_braces, opens_list, opens_braces, opens_operand, no_operand, no_prefix}
-use Rattle.cp_read.proofs.lemmas.CloseLaws.{has_come, refused_so, no_more, cells_of-append}
+use Rattle.cp_read.proofs.lemmas.MachineLaws.{any_takes, primary_step, no_operand_step, open_step, operator_step, opens_call, closes_list, closes_braces, opens_list, opens_braces, opens_operand, no_operand, no_prefix}
+use Rattle.cp_read.proofs.lemmas.CloseLaws.{has_come, refused_so}
 use Rattle.cp_read.proofs.lemmas.MoreLaws.{term_comes, set_behind, made}
 use Rattle.cp_read.proofs.lemmas.KnowsLaws.{number-is, knows-behind}
 use Rattle.cp_read.proofs.lemmas.Fronts.{front_variable, front_text, front_number, front_word, front_call, front_end, front_opens, front_closes, front_list_opens, front_list_closes, front_braces_open, front_braces_close, front_comma, front_bar}

@@ -1,8 +1,7 @@
 -- From a run to the next clause.
 use Rattle.std.proofs.Common.{◌≡◌, ◌≤◌, ◌-◌, ℕ, Bool, true, false, List, [], ◌∷◌, ◌++◌, length, refl, sym, ◌∙◌, ap, subst, arith}
 use Rattle.std.proofs.lemmas.List.{drop-drop, length-drop}
-use Rattle.std.proofs.lemmas.Bool.Decides.{Decides-eqb}
-use Rattle.std.specs.Prelude.{◌==◌, ◌+◌, cond, if◌then◌else◌, drop, Result, Ok, Err, Option, Some, None}
+use Rattle.std.specs.Prelude.{◌==◌, cond, if◌then◌else◌, drop, Result, Ok, Err, Option, Some}
 use Rattle.cp_term.specs.declared.cell.Cell.{Cell}
 use Rattle.cp_lex.specs.declared.token.Token.{Token}
 use Rattle.cp_ops.specs.Operators.{Ops}
@@ -12,12 +11,11 @@ use Rattle.cp_read.specs.declared.error.SyntaxWhy.TheVariants.{TooLarge}
 use Rattle.cp_read.specs.declared.error.ReadError.{ReadError}
 use Rattle.cp_read.specs.declared.error.ReadError.TheVariants.{Syntax, NoMemory}
 use Rattle.cp_read.specs.Lexemes.{Lexeme, lexemes}
-use Rattle.cp_read.specs.Grammar.{Stop, stopped, Read, primary, ended, behind_end, any_term, clause}
+use Rattle.cp_read.specs.Grammar.{Stop, stopped, Read, primary, behind_end, any_term, clause}
 use Rattle.cp_read.specs.Clauses.{Clause, Fault, line_of, last_line, fault_line, fits, clause_by, clause_of, next_clause}
 use Rattle.cp_term.specs.Preorder.{is_terms}
 use Rattle.cp_term.specs.Numbering.{is_numbered_from}
 use Rattle.cp_term.specs.TermOf.{term_of}
-use Rattle.cp_term.specs.declared.term.TermError.{TermError}
 use Rattle.cp_term.specs.declared.term.TermError.TheVariants.{NotOneTerm, BadNumbering}
 use Rattle.cp_read.specs.Drafts.{cells_of}
 use Rattle.cp_read.specs.Progress.{Progress}

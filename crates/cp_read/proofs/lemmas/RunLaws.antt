@@ -1,7 +1,7 @@
 -- A whole run.
-use Rattle.std.proofs.Common.{◌≡◌, ℕ, suc, ◌+◌, ◌*◌, ◌<◌, List, [], ◌∷◌, ◌++◌, length, refl, sym, ◌∙◌, ap, subst, arith}
+use Rattle.std.proofs.Common.{◌≡◌, suc, ◌+◌, ◌*◌, ◌<◌, List, [], ◌∷◌, length, refl, sym, ◌∙◌, ap, subst, arith}
 use Rattle.std.proofs.lemmas.List.{length-reverse}
-use Rattle.std.specs.Prelude.{reverse, Result, Ok, Err}
+use Rattle.std.specs.Prelude.{reverse, Err}
 use Rattle.cp_term.specs.declared.cell.Cell.{Cell}
 use Rattle.cp_ops.specs.Operators.{Ops}
 use Rattle.cp_lex.specs.declared.token.Token.{Token}
@@ -12,8 +12,8 @@ use Rattle.cp_read.specs.declared.frame.Stop as frame
 use Rattle.cp_read.specs.declared.frame.Stop.TheVariants as stops
 use Rattle.cp_read.specs.Lexemes.{lexemes}
 use Rattle.cp_read.specs.Progress.{Progress}
-use Rattle.cp_read.specs.SeenNames.{Seen, Knows, nothing_seen}
-use Rattle.cp_read.specs.Machine.{Open, State, expects, has, meaning, weight}
+use Rattle.cp_read.specs.SeenNames.{Seen, Knows}
+use Rattle.cp_read.specs.Machine.{Open, State, expects, meaning, weight}
 use Rattle.cp_read.specs.Stands.{IsState, Stacked, Keeps, Steps, IsFresh, Reached, left_to_do, Gives}
 use Rattle.cp_read.proofs.lemmas.CloseLaws.{lexemes-length}
 use Rattle.cp_read.proofs.lemmas.KnowsLaws.{nothing-known}

@@ -1,10 +1,5 @@
-use Rattle.std.proofs.Common.{◌≡◌, List, ◌∙◌, ap, sym, subst, Ok, Err}
-use Rattle.std.specs.Prelude.{Result}
-use Rattle.cp_read.specs.declared.error.SyntaxWhy.{SyntaxWhy}
-use Rattle.cp_read.specs.declared.frame.Stop as frame
-use Rattle.cp_read.specs.Clauses.{Clause, Fault}
+use Rattle.std.proofs.Common.{ap}
 use Rattle.cp_read.specs.Progress.{Progress}
-use Rattle.cp_read.specs.Stands.{Gives}
 use Rattle.cp_read.proofs.lemmas.ReadLaws.{find-ok, find-err}
 use Rattle.cp_read.proofs.reader.find.Goals as goal
 

@@ -1,5 +1,5 @@
-use Rattle.std.proofs.Common.{◌≡◌, List, ◌∙◌, sym, subst, Ok}
-use Rattle.std.specs.Prelude.{Option, Result}
+use Rattle.std.proofs.Common.{List, ◌∙◌, sym, subst}
+use Rattle.std.specs.Prelude.{Option}
 use Rattle.cp_term.specs.declared.cell.Cell.{Cell}
 use Rattle.cp_read.specs.Drafts.{cells_of}
 use Rattle.cp_read.specs.Filling.{IsWithin}

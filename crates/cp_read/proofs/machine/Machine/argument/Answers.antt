@@ -1,4 +1,4 @@
-use Rattle.std.proofs.Common.{◌≡◌, ℕ, suc, ◌+◌, List, [], ◌∷◌, ◌++◌, ap, subst, sym, refl, arith}
+use Rattle.std.proofs.Common.{◌≡◌, ℕ, suc, ◌+◌, List, [], ◌∷◌, ◌++◌, ap, subst, arith}
 use Rattle.std.specs.Prelude.{drop, slice_set}
 use Rattle.cp_term.specs.declared.cell.Cell.TheVariants.{Func}
 use Rattle.cp_read.specs.declared.behind.Behind as declared

@@ -2,10 +2,8 @@ use Rattle.std.proofs.Common.{◌≡◌, ℕ, List, ap, subst}
 use Rattle.std.specs.Prelude.{Some, None, drop, if◌then◌else◌}
 use Rattle.cp_lex.specs.declared.token.Token.{Token}
 use Rattle.cp_read.specs.Lexemes.{lexemes}
-use Rattle.cp_read.specs.Grammar.{behind_close, behind_brace, behind_bracket, behind_end}
+use Rattle.cp_read.specs.Grammar.{behind_end}
 use Rattle.cp_read.specs.Progress.{Progress}
-use Rattle.cp_read.specs.declared.frame.Construct.{Construct}
-use Rattle.cp_read.specs.Stands.{IsClosing}
 use Rattle.cp_read.proofs.lemmas.CloseLaws.{by_end}
 use Rattle.cp_read.proofs.machine.Machine.end.Goals as goal
 

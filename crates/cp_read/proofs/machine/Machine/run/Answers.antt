@@ -1,4 +1,4 @@
-use Rattle.std.proofs.Common.{◌≡◌, ◌<◌, subst, sym, Ok, Err}
+use Rattle.std.proofs.Common.{◌<◌, subst, sym}
 use Rattle.std.specs.Prelude.{Result}
 use Rattle.cp_read.specs.declared.frame.Turn.{Turn}
 use Rattle.cp_read.specs.declared.frame.Turn.TheVariants as turns

@@ -1,5 +1,5 @@
-use Rattle.std.proofs.Common.{◌≡◌, List, ◌∙◌, ap, sym, subst, Ok, Err}
-use Rattle.std.specs.Prelude.{Result, Some, ◌-◌, drop}
+use Rattle.std.proofs.Common.{◌≡◌, List, ◌∙◌, ap, subst, Ok, Err}
+use Rattle.std.specs.Prelude.{Some, ◌-◌, drop}
 use Rattle.cp_lex.specs.declared.token.Token.{Token}
 use Rattle.cp_read.specs.declared.bounds.Bounds.{Bounds}
 use Rattle.cp_read.specs.Clauses.{next_clause}
