@@ -5,3 +5,14 @@ pub mod Complete
 pub mod WellFormed
 pub mod Numbered
 pub mod ClauseTerm
+pub mod VariableLaws
+pub mod DraftLaws
+pub mod MachineLaws
+pub mod CloseLaws
+pub mod MoreLaws
+pub mod KnowsLaws
+pub mod Fronts
+pub mod OperandLaws
+pub mod RunLaws
+pub mod FitLaws
+pub mod ReadLaws

@@ -1,11 +1,18 @@
 //! Reads the clauses of a Prolog text from its tokens.
 #![tactic(auto)]
 
+mod behind;
 mod bounds;
 mod clause;
+mod draft;
 mod error;
+mod frame;
 mod laws;
+mod look;
+mod machine;
+mod operators;
 mod reader;
+mod variables;
 
 pub use bounds::Bounds;
 pub use clause::ReadClause;
@@ -14,3 +21,6 @@ pub use laws::{
     clauses_are_terms, reading_is_by_the_rules, reading_is_decided, rules_derive_no_second,
 };
 pub use reader::Reader;
+
+#[cfg(test)]
+mod tests;

@@ -1,0 +1,156 @@
+use super::*;
+use cp_lex::{LexError, tokens_of};
+use cp_ops::OpTable;
+use cp_term::{Cell, Name, Term};
+use std::alloc::Global;
+use std::test::Fail;
+
+/// A cell that is wanted.
+enum Wanted {
+    V(u32),
+    I(i64),
+    A(&'static [u8]),
+    F(&'static [u8], u16),
+}
+
+use Wanted::{A, F, I, V};
+
+fn is_wanted(cell: &Cell, wanted: &Wanted) -> bool {
+    match (cell, wanted) {
+        (Cell::Var(number), V(other)) => *number == *other,
+        (Cell::Int(value), I(other)) => *value == *other,
+        (Cell::Atom(name), A(other)) => name.bytes() == *other,
+        (Cell::Func(name, arity), F(other, count)) => name.bytes() == *other && *arity == *count,
+        _ => false,
+    }
+}
+
+fn are_wanted(term: &Term, wanted: &[Wanted]) -> bool {
+    let cells = term.cells();
+    cells.len() == wanted.len()
+        && cells
+            .iter()
+            .zip(wanted.iter())
+            .all(|(cell, wanted)| is_wanted(cell, wanted))
+}
+
+const BOUNDS: Bounds = Bounds {
+    cells: 4096,
+    name: 1024,
+};
+
+fn reader(alloc: Global, text: &[u8]) -> Result<Reader, Fail> {
+    Ok(Reader::new(alloc, tokens_of(alloc, text)?, BOUNDS))
+}
+
+/// The standard operators, and `foo`, `bar` and `/*`.
+fn operators(alloc: Global) -> Result<OpTable, Fail> {
+    let mut table = OpTable::standard(alloc)?;
+    table.declare(100, &Name::of(alloc, b"fy")?, &Name::of(alloc, b"foo")?)?;
+    table.declare(500, &Name::of(alloc, b"fy")?, &Name::of(alloc, b"bar")?)?;
+    table.declare(700, &Name::of(alloc, b"xfx")?, &Name::of(alloc, b"/*")?)?;
+    Ok(table)
+}
+
+const CLAUSES: [(&[u8], &[Wanted]); 32] = [
+    (b"a -1.", &[F(b"-", 2), A(b"a"), I(1)]),
+    (b"f(-).", &[F(b"f", 1), A(b"-")]),
+    (
+        b"\"ab\".",
+        &[F(b".", 2), I(97), F(b".", 2), I(98), A(b"[]")],
+    ),
+    (b"check :- a.", &[F(b":-", 2), A(b"check"), A(b"a")]),
+    (b"f(:- a).", &[F(b"f", 1), F(b":-", 1), A(b"a")]),
+    (
+        b"p(X, _, Y, X, _).",
+        &[F(b"p", 5), V(0), V(1), V(2), V(0), V(3)],
+    ),
+    (b"[a, B|T].", &[F(b".", 2), A(b"a"), F(b".", 2), V(0), V(1)]),
+    (
+        b"{[ ], {}}.",
+        &[F(b"{}", 1), F(b",", 2), A(b"[]"), A(b"{}")],
+    ),
+    (b"-9223372036854775808.", &[I(-9223372036854775808)]),
+    (
+        b"a - b - c.",
+        &[F(b"-", 2), F(b"-", 2), A(b"a"), A(b"b"), A(b"c")],
+    ),
+    (
+        b"a ^ b ^ c.",
+        &[F(b"^", 2), A(b"a"), F(b"^", 2), A(b"b"), A(b"c")],
+    ),
+    (b"- 1 .", &[F(b"-", 1), I(1)]),
+    (b"1- -1 .", &[F(b"-", 2), I(1), I(-1)]),
+    (b"a= \\ b .", &[F(b"=", 2), A(b"a"), F(b"\\", 1), A(b"b")]),
+    (
+        b"a=(\\+ b) .",
+        &[F(b"=", 2), A(b"a"), F(b"\\+", 1), A(b"b")],
+    ),
+    (b"- (a+b) .", &[F(b"-", 1), F(b"+", 2), A(b"a"), A(b"b")]),
+    (b"(- 1)^2 .", &[F(b"^", 2), F(b"-", 1), I(1), I(2)]),
+    (
+        b"a:-b,c .",
+        &[F(b":-", 2), A(b"a"), F(b",", 2), A(b"b"), A(b"c")],
+    ),
+    (b"_0 is _1 .", &[F(b"is", 2), V(0), V(1)]),
+    (b"a ; b .", &[F(b";", 2), A(b"a"), A(b"b")]),
+    (b"f((:- a)) .", &[F(b"f", 1), F(b":-", 1), A(b"a")]),
+    (
+        b"m:(is)/2 .",
+        &[F(b":", 2), A(b"m"), F(b"/", 2), A(b"is"), I(2)],
+    ),
+    (b"[-] .", &[F(b".", 2), A(b"-"), A(b"[]")]),
+    (b"'hello world' .", &[A(b"hello world")]),
+    (b"'[]'(a) .", &[F(b"[]", 1), A(b"a")]),
+    (b"'{}'(a,b) .", &[F(b"{}", 2), A(b"a"), A(b"b")]),
+    (b"foo -1 .", &[F(b"foo", 1), I(-1)]),
+    (
+        b"(bar a)+b .",
+        &[F(b"+", 2), F(b"bar", 1), A(b"a"), A(b"b")],
+    ),
+    (b"bar a+b .", &[F(b"bar", 1), F(b"+", 2), A(b"a"), A(b"b")]),
+    (b"0 '/*' 1 .", &[F(b"/*", 2), I(0), I(1)]),
+    (b"?- ?- a.", &[F(b"?-", 1), F(b"?-", 1), A(b"a")]),
+    (b"\"\".", &[A(b"[]")]),
+];
+
+#[test]
+fn clauses_are_read(rt: HostRuntime) -> Result<(), Fail> {
+    let table = operators(rt.alloc())?;
+    for (text, wanted) in CLAUSES.iter() {
+        let mut reader = reader(rt.alloc(), text)?;
+        let Some(clause) = reader.next_clause(&table)? else {
+            return Err(Fail::new("no clause"));
+        };
+        assert!(rt; are_wanted(&clause.term, wanted));
+        assert!(rt; reader.next_clause(&table)?.is_none());
+    }
+    Ok(())
+}
+
+const REFUSED: [(&[u8], u32, SyntaxWhy); 9] = [
+    (b"a :- b\n:- c.", 2, SyntaxWhy::Priority),
+    (b"a -9223372036854775808.", 1, SyntaxWhy::UnexpectedToken),
+    (b"a :-\n b", 2, SyntaxWhy::NoFullStop),
+    (b"f(a\n.", 2, SyntaxWhy::UnexpectedToken),
+    (b"[a|b,c].", 1, SyntaxWhy::Priority),
+    (b"a b.", 1, SyntaxWhy::UnexpectedToken),
+    (b"a = b = c.", 1, SyntaxWhy::Priority),
+    (b"(a | b).", 1, SyntaxWhy::UnexpectedToken),
+    (b"f(a:-b).", 1, SyntaxWhy::Priority),
+];
+
+#[test]
+fn refusals_stay(rt: HostRuntime) -> Result<(), Fail> {
+    let table = operators(rt.alloc())?;
+    for (text, line, why) in REFUSED.iter() {
+        let mut reader = reader(rt.alloc(), text)?;
+        let refusal = Some(ReadError::Syntax {
+            line: *line,
+            why: *why,
+        });
+        assert_eq!(rt; reader.next_clause(&table).err(), refusal);
+        assert_eq!(rt; reader.next_clause(&table).err(), refusal);
+    }
+    Ok(())
+}
