@@ -2,7 +2,7 @@ use super::*;
 use cp_lex::{LexError, tokens_of};
 use cp_ops::OpTable;
 use cp_term::{Cell, Name, Term};
-use std::alloc::Global;
+use std::alloc::{AllocError, Global};
 use std::test::Fail;
 
 /// A cell that is wanted.
@@ -40,7 +40,11 @@ const BOUNDS: Bounds = Bounds {
 };
 
 fn reader(alloc: Global, text: &[u8]) -> Result<Reader, Fail> {
-    Ok(Reader::new(alloc, tokens_of(alloc, text)?, BOUNDS))
+    if text.len() < u32::MAX as usize {
+        Ok(Reader::new(alloc, tokens_of(alloc, text)?, BOUNDS))
+    } else {
+        Err(Fail::from(AllocError))
+    }
 }
 
 /// The standard operators, and `foo`, `bar` and `/*`.
