@@ -4,6 +4,7 @@
 
 mod operators;
 mod pieces;
+mod read;
 mod tokens;
 mod unify;
 mod words;

@@ -15,7 +15,8 @@ pub(crate) fn tokens(alloc: Global, count: u32) -> Result<u64, AllocError> {
     Ok(scan.tokens.len() as u64)
 }
 
-fn lines(alloc: Global, count: u32) -> Result<Vec<u8>, AllocError> {
+/// A text of so many lines.
+pub(crate) fn lines(alloc: Global, count: u32) -> Result<Vec<u8>, AllocError> {
     let mut text = Vec::new(alloc);
     for _ in 0..count {
         text.extend_from_slice(LINE)?;

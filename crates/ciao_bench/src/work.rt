@@ -1,4 +1,5 @@
 use crate::operators::operators;
+use crate::read::read;
 use crate::tokens::tokens;
 use crate::unify::unify;
 use crate::write::write;
@@ -8,19 +9,22 @@ use std::alloc::{AllocError, Global};
 #[derive(Clone, Copy)]
 pub(crate) enum Work {
     Operators,
+    Read,
     Tokens,
     Unify,
     Write,
 }
 
 /// The names of all pieces of work.
-pub(crate) const NAMES: &str = "operators, tokens, unify or write";
+pub(crate) const NAMES: &str = "operators, read, tokens, unify or write";
 
 impl Work {
     /// The piece of work with this name.
     pub(crate) fn named(name: &str) -> Option<Work> {
         if name == "operators" {
             Some(Work::Operators)
+        } else if name == "read" {
+            Some(Work::Read)
         } else if name == "tokens" {
             Some(Work::Tokens)
         } else if name == "unify" {
@@ -35,6 +39,7 @@ impl Work {
     pub(crate) fn name(self) -> &'static str {
         match self {
             Work::Operators => "operators",
+            Work::Read => "read",
             Work::Tokens => "tokens",
             Work::Unify => "unify",
             Work::Write => "write",
@@ -45,6 +50,7 @@ impl Work {
     pub(crate) fn done(self, alloc: Global, count: u32) -> Result<u64, AllocError> {
         match self {
             Work::Operators => operators(alloc, count),
+            Work::Read => read(alloc, count),
             Work::Tokens => tokens(alloc, count),
             Work::Unify => unify(alloc, count),
             Work::Write => write(alloc, count),
