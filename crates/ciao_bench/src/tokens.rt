@@ -4,7 +4,7 @@ use std::alloc::{AllocError, Global};
 /// A line of source of 64 bytes.
 const LINE: &[u8] = b"append([Head|T], L0, 'R'(\"a\", 0x1f)) :- X is T-1, !. % a clause\n";
 
-/// Cuts a text of so many lines into tokens once, and counts the tokens: 29 a line. A text of 4 GiB or more is answered as
+/// Cuts a text of so many lines into tokens once, and counts the tokens: 26 a line. A text of 4 GiB or more is answered as
 /// want of memory.
 pub(crate) fn tokens(alloc: Global, count: u32) -> Result<u64, AllocError> {
     let text = lines(alloc, count)?;
