@@ -224,8 +224,8 @@ a_ball_is_a_copy : run 20 [] (f3 "catch" (also (f2 "=" (v 0) (n 1)) (f1 "throw" 
 unfolding body_of fresh_body seen_from builtin_goal tree holds broken_call held broken_exit
 a_ball_is_a_copy = refl
 
--- catch(true, X, true), throw(b)
-a_catch_that_was_left_catches_nothing : run 20 [] (also (f3 "catch" (a "true") (v 0) (a "true")) (f1 "throw" (a "b"))) [] ≡ request.End (how.Ball (a "b"))
+-- catch(true, X, fail), throw(b)
+a_catch_that_was_left_catches_nothing : run 20 [] (also (f3 "catch" (a "true") (v 0) (a "fail")) (f1 "throw" (a "b"))) [] ≡ request.End (how.Ball (a "b"))
 unfolding body_of fresh_body seen_from builtin_goal tree holds broken_call held broken_exit
 a_catch_that_was_left_catches_nothing = refl
 
