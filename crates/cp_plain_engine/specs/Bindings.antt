@@ -1,5 +1,5 @@
 -- What the machine's bindings are in the words of the definition.
-use Rattle.std.specs.Prelude.{Bool, true, false, Option, Some, None, List, [], ◌∷◌, map}
+use Rattle.std.specs.Prelude.{◌≤◌, ◌^◌, Bool, true, false, Option, Some, None, List, [], ◌∷◌, map}
 use Rattle.cp_term.specs.declared.cell.Cell.{Cell}
 use Rattle.cp_term.specs.declared.cell.Cell.TheVariants.{Var, Int, Atom, Func}
 use Rattle.cp_term.specs.Substitution.{Binding, Substitution}
@@ -16,6 +16,13 @@ abbrev pub cell_at : Value → Cell
 cell_at (value.Variable v) = Var v
 cell_at (value.Integer i) = Int i
 cell_at (value.Atom a) = Atom a.now
+
+-- a cell that no value is: a functor, or a variable whose number leaves 32 bits
+abbrev pub IsNoValue : Cell → Type 0
+IsNoValue (Var v) = 2 ^ 32 ≤ v
+IsNoValue (Int i) = ⊥
+IsNoValue (Atom a) = ⊥
+IsNoValue (Func f k) = Unit {0}
 
 -- the bindings, in the order in which they were made
 abbrev pub binding_of : Bound → Binding

@@ -1,4 +1,4 @@
-ghost use Rattle.std.specs.Prelude.{◌≡◌, ◌+◌, ◌≤◌, ◌^◌, [], ◌∷◌, map, max, IfSome};
+ghost use Rattle.std.specs.Prelude.{◌≡◌, ◌+◌, ◌≤◌, ◌^◌, [], ◌∷◌, map, max, MatchOption};
 ghost use Rattle.std.specs.List.{flat_map};
 ghost use Rattle.cp_term.specs.Numbering.{next_variable};
 ghost use Rattle.cp_plain_engine.specs.Resolution.{cell_of, arguments_of, first_free};
@@ -6,9 +6,9 @@ ghost use Rattle.cp_plain_engine.specs.Resolution.{cell_of, arguments_of, first_
 use cp_plain::{Argument, Goal};
 use cp_term::Cell;
 
-/// The least number above those of the variables of the cells, each raised by `shift`; none where it is too large.
+/// The least number above those of the variables of the cells, each raised by `shift`; none where it leaves 32 bits.
 pub fn free_after(cells: &[Cell], shift: u32) -> Option<u32>
-    ensures { IfSome result (λ free. free ≡ shift + next_variable cells.now) }
+    ensures { MatchOption result (2 ^ 32 ≤ shift + next_variable cells.now) (λ free. free ≡ shift + next_variable cells.now) }
 {
     let mut next: u64 = 0;
     for cell in cells {
@@ -55,9 +55,9 @@ fn after_goal(least: u64, goal: &Goal) -> u64
     }
 }
 
-/// The least number above those of the goals' variables; none where it is too large.
+/// The least number above those of the goals' variables; none where it leaves 32 bits.
 pub fn first_free_of(goals: &[Goal]) -> Option<u32>
-    ensures { IfSome result (λ free. free ≡ first_free goals.now) }
+    ensures { MatchOption result (2 ^ 32 ≤ first_free goals.now) (λ free. free ≡ first_free goals.now) }
 {
     let mut next = 0;
     for goal in goals {

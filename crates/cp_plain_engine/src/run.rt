@@ -1,4 +1,4 @@
-ghost use Rattle.std.specs.Prelude.{◌≡◌, ◌+◌, ◌-◌, ◌<◌, ◌^◌, length, List, Option, None, Some, OnOk, IfOk};
+ghost use Rattle.std.specs.Prelude.{◌≡◌, ◌+◌, ◌-◌, ◌<◌, ◌^◌, [], length, List, Option, None, Some, OnOk, IfOk};
 ghost use Rattle.cp_call.specs.declared.item.Input.{Input};
 
 use crate::due::{Due, due_of};
@@ -22,11 +22,18 @@ pub struct Run {
 
 impl Run {
     ghost use Rattle.cp_plain_engine.specs.Resolution.{runs_main};
+    ghost use Rattle.cp_plain_engine.specs.declared.ending.Ending.TheVariants.{Done};
     ghost use Rattle.cp_plain_engine.specs.Turns.{passed, turned};
     ghost use Rattle.cp_plain_engine.specs.Continuation.{continuation, goals_left, does, HasGoal};
 
     /// A run of nothing, which has ended.
-    pub fn idle(alloc: Global) -> Run {
+    pub fn idle(alloc: Global) -> Run
+        ensures ended { result.ending ≡ Some Done }
+        ensures bindings { result.bindings.items ≡ [] }
+        ensures at { result.at ≡ 0 }
+        ensures units { result.units ≡ 0 }
+        ensures free { result.free ≡ 0 }
+    {
         Run {
             at: 0,
             units: 0,

@@ -1,8 +1,8 @@
-ghost use Rattle.std.specs.Prelude.{◌≡◌, [], ◌∷◌, IfOk, IfSome, ◌+◌, ◌<◌};
+ghost use Rattle.std.specs.Prelude.{◌≡◌, [], ◌∷◌, IfOk, MatchOption, ◌+◌, ◌<◌};
 ghost use Rattle.cp_term.specs.Numbering.{renamed};
 ghost use Rattle.cp_term.specs.Substitution.{apply};
 ghost use Rattle.cp_plain_engine.specs.Resolution.{cell_of};
-ghost use Rattle.cp_plain_engine.specs.Bindings.{cell_at, substitution_of};
+ghost use Rattle.cp_plain_engine.specs.Bindings.{cell_at, substitution_of, IsNoValue};
 
 use cp_plain::Argument;
 use cp_term::{Cell, Name};
@@ -35,9 +35,9 @@ impl<'a> Value<'a> {
         }
     }
 
-    /// A cell with its variable's number raised, unless it is a functor or the number is too large.
+    /// A cell with its variable's number raised; none where it is a functor or the number leaves 32 bits.
     pub fn raised(cell: &'a Cell, shift: u32) -> Option<Value<'a>>
-        ensures { IfSome result (λ value. cell_at value ≡ renamed (λ v. v + shift) cell.now) }
+        ensures { MatchOption result (IsNoValue (renamed (λ v. v + shift) cell.now)) (λ value. cell_at value ≡ renamed (λ v. v + shift) cell.now) }
     {
         match cell {
             Cell::Var(variable) => {
