@@ -1,6 +1,8 @@
 -- The cells of a clause, as far as they are within the bounds.
 use Rattle.std.specs.Prelude.{◌≡◌, ℕ, Bool, true, false, List, Option, Some, None}
 use Rattle.cp_term.specs.declared.cell.Cell.{Cell}
+use Rattle.cp_term.specs.Preorder.{IsTerm}
+use Rattle.cp_term.specs.Numbering.{IsNumbered}
 use Rattle.cp_read.specs.declared.bounds.Bounds.{Bounds}
 use Rattle.cp_read.specs.Clauses.{cell_fits, fits}
 
@@ -17,3 +19,7 @@ IsFilled bounds false list cells = fits bounds cells ≡ false
 abbrev pub IsWithin : Bounds → Option (List Cell) → List Cell → Type 0
 IsWithin bounds (Some list) cells = (list ≡ cells) × (fits bounds cells ≡ true)
 IsWithin bounds None cells = fits bounds cells ≡ false
+
+-- cells that are within the bounds are one term, with its variables numbered by first occurrence
+abbrev pub IsTermWithin : Bounds → List Cell → Type 0
+IsTermWithin bounds cells = fits bounds cells ≡ true → IsTerm cells × IsNumbered cells

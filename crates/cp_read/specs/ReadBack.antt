@@ -1,5 +1,5 @@
 -- What is written with quotes is read again.
-use Rattle.std.specs.Prelude.{◌≡◌, ℕ, ◌^◌, Bool, true, nat_lt, IsTrue, List, [], ◌++◌, Option, Some, None, Result, Ok, Err, pos, negsuc, codes}
+use Rattle.std.specs.Prelude.{◌≡◌, ℕ, ◌<◌, ◌^◌, Bool, true, nat_lt, IsTrue, List, [], ◌++◌, Option, Some, None, Result, Ok, Err, pos, negsuc, codes}
 use Rattle.std.specs.List.{list_all}
 use Rattle.std.specs.Str.{is_utf8}
 use Rattle.cp_term.specs.declared.cell.Cell.{Cell}
@@ -41,8 +41,10 @@ is_proper (Int (negsuc n)) = nat_lt n (2 ^ 63)
 is_proper (Atom a) = is_utf8 a
 is_proper (Func f k) = is_utf8 f
 
--- the quoted text of a term within the limits, a space and a full stop are read as the term and nothing more
+-- The quoted text of a term within the bounds, a space and a full stop are read as the term and nothing more. Bounds are
+-- numbers of 32 bits, as those of every reader are: the number of a variable is written in at most 64 decimal digits, so two
+-- variables of a term of more than 10 ^ 64 cells could have one text.
 abbrev pub ReadsBack : Type 0
-ReadsBack = (ops : Ops) (bounds : Bounds) (cells : List Cell) → IsTable ops → IsTerm cells → IsNumbered cells →
+ReadsBack = (ops : Ops) (bounds : Bounds) (cells : List Cell) → bounds.cells < 2 ^ 32 → IsTable ops → IsTerm cells → IsNumbered cells →
     IsTrue (list_all is_proper cells) → IsTrue (fits bounds cells) →
     read_text bounds ops (text_of quoting ops cells ++ codes " .") ≡ found cells []

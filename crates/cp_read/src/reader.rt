@@ -1,6 +1,8 @@
-ghost use Rattle.std.specs.Prelude.{◌≡◌, ◌≤◌, ◌-◌, None, IfOk, drop, length};
+ghost use Rattle.std.specs.Prelude.{◌≡◌, ◌≤◌, ◌-◌, true, None, IfOk, drop, length};
+ghost use Rattle.cp_term.specs.Preorder.{is_terms};
+ghost use Rattle.cp_term.specs.Numbering.{is_numbered_from};
 ghost use Rattle.cp_read.specs.Drafts.{cells_of};
-ghost use Rattle.cp_read.specs.Filling.{IsWithin};
+ghost use Rattle.cp_read.specs.Filling.{IsWithin, IsTermWithin};
 ghost use Rattle.cp_read.specs.Clauses.{line_of, last_line, fault_line};
 ghost use Rattle.cp_read.specs.Reading.{Answers, ReadsNext, Finds, Finishes, refusal_of};
 
@@ -12,7 +14,7 @@ use crate::frame::Stop;
 use crate::machine::Machine;
 use cp_lex::{Token, Tokens};
 use cp_ops::OpTable;
-use cp_term::Term;
+use cp_term::{Cells, Term};
 use std::alloc::{AllocError, Global};
 use std::marker::Model;
 
@@ -130,6 +132,7 @@ fn finish(
     tokens: &[Token],
     bounds: Bounds,
 ) -> Result<(Term, usize), ReadError>
+    requires { IsTermWithin bounds (cells_of draft) }
     ensures { Finishes result (cells_of draft.entry) left tokens.now bounds }
 {
     match term_of(draft, bounds) {
@@ -173,13 +176,23 @@ fn last_line(tokens: &[Token]) -> u32
 
 /// The term, unless it is past the bounds.
 fn term_of(draft: Draft, bounds: Bounds) -> Result<Option<Term>, AllocError>
+    requires { IsTermWithin bounds (cells_of draft) }
     ensures { IfOk result (λ o. IsWithin bounds o (cells_of draft.entry)) }
 {
     match draft.into_cells(bounds)? {
         None => Ok(None),
-        Some(cells) => match Term::from_cells(cells) {
-            Ok(term) => Ok(Some(term)),
-            Err(_) => Err(AllocError),
-        },
+        Some(cells) => Ok(Some(term_with(cells))),
+    }
+}
+
+/// The term with these cells.
+fn term_with(cells: Cells) -> Term
+    requires term { is_terms 1 cells ≡ true }
+    requires numbered { is_numbered_from 0 cells ≡ true }
+    ensures { result ≡ cells }
+{
+    match Term::from_cells(cells) {
+        Ok(term) => term,
+        Err(_) => unreachable!(),
     }
 }

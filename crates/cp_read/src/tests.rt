@@ -158,3 +158,59 @@ fn refusals_stay(rt: HostRuntime) -> Result<(), Fail> {
     }
     Ok(())
 }
+
+/// How often a piece of a deep text stands there.
+const TIMES: u32 = 50_000;
+
+const TOO_LARGE: Option<ReadError> = Some(ReadError::Syntax {
+    line: 1,
+    why: SyntaxWhy::TooLarge,
+});
+
+/// What is repeated at the front of a text, what stands between, what is repeated behind it, and the refusal. Parentheses
+/// make no cell; all others have more cells than the bounds.
+const DEEP: [(&[u8], &[u8], &[u8], Option<ReadError>); 6] = [
+    (b"(", b"a", b")", None),
+    (b"\\+ ", b"a", b"", TOO_LARGE),
+    (b"[a|", b"T", b"]", TOO_LARGE),
+    (b"", b"[a", b",a", NOT_CLOSED),
+    (b"f(", b"X", b")", TOO_LARGE),
+    (b"a:", b"a", b"-a", TOO_LARGE),
+];
+
+const NOT_CLOSED: Option<ReadError> = Some(ReadError::Syntax {
+    line: 1,
+    why: SyntaxWhy::UnexpectedToken,
+});
+
+fn repeat(text: &mut Vec<u8>, piece: &[u8]) -> Result<(), AllocError> {
+    for _ in 0..TIMES {
+        text.extend_from_slice(piece)?;
+    }
+    Ok(())
+}
+
+fn deep_text(
+    alloc: Global,
+    front: &[u8],
+    between: &[u8],
+    behind: &[u8],
+) -> Result<Vec<u8>, AllocError> {
+    let mut text = Vec::new(alloc);
+    repeat(&mut text, front)?;
+    text.extend_from_slice(between)?;
+    repeat(&mut text, behind)?;
+    text.extend_from_slice(b" .")?;
+    Ok(text)
+}
+
+#[test]
+fn deep_texts_are_read(rt: HostRuntime) -> Result<(), Fail> {
+    let table = operators(rt.alloc())?;
+    for (front, between, behind, refusal) in DEEP.iter() {
+        let text = deep_text(rt.alloc(), front, between, behind)?;
+        let mut reader = reader(rt.alloc(), text.as_slice())?;
+        assert_eq!(rt; reader.next_clause(&table).err(), *refusal);
+    }
+    Ok(())
+}

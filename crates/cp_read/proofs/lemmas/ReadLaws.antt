@@ -1,7 +1,7 @@
 -- From a run to the next clause.
 use Rattle.std.proofs.Common.{◌≡◌, ◌≤◌, ◌-◌, ℕ, Bool, true, false, List, [], ◌∷◌, ◌++◌, length, refl, sym, ◌∙◌, ap, subst, arith}
 use Rattle.std.proofs.lemmas.List.{drop-drop, length-drop}
-use Rattle.std.specs.Prelude.{◌==◌, cond, if◌then◌else◌, drop, Result, Ok, Err, Option, Some}
+use Rattle.std.specs.Prelude.{◌==◌, if◌then◌else◌, drop, Result, Ok, Err, Option, Some}
 use Rattle.cp_term.specs.declared.cell.Cell.{Cell}
 use Rattle.cp_lex.specs.declared.token.Token.{Token}
 use Rattle.cp_ops.specs.Operators.{Ops}
@@ -13,10 +13,6 @@ use Rattle.cp_read.specs.declared.error.ReadError.TheVariants.{Syntax, NoMemory}
 use Rattle.cp_read.specs.Lexemes.{Lexeme, lexemes}
 use Rattle.cp_read.specs.Grammar.{Stop, stopped, Read, primary, behind_end, any_term, clause}
 use Rattle.cp_read.specs.Clauses.{Clause, Fault, line_of, last_line, fault_line, fits, clause_by, clause_of, next_clause}
-use Rattle.cp_term.specs.Preorder.{is_terms}
-use Rattle.cp_term.specs.Numbering.{is_numbered_from}
-use Rattle.cp_term.specs.TermOf.{term_of}
-use Rattle.cp_term.specs.declared.term.TermError.TheVariants.{NotOneTerm, BadNumbering}
 use Rattle.cp_read.specs.Drafts.{cells_of}
 use Rattle.cp_read.specs.Progress.{Progress}
 use Rattle.cp_read.specs.Reading.{Reading, ReadsNext, Finds, Finishes, refusal_of}
@@ -75,17 +71,6 @@ next-is bounds ops (t ∷ ts) c some e = ap (λ (r : Result Clause Fault). let y
 pub next-fault : (bounds : Bounds) (ops : Ops) (ts : List Token) (f : Fault) → (ts ≡ [] → ⊥) → clause_of bounds ops ts ≡ Err f → next_clause bounds ops ts ≡ Err f
 next-fault bounds ops [] f some e = absurd (some refl)
 next-fault bounds ops (t ∷ ts) f some e = ap (λ (r : Result Clause Fault). let y : Result (Option Clause) Fault = elim r [ Ok c ↦ Ok (Some c) | Err e ↦ Err e ] in y) e
-
--- the cells of a term that was made of these
-pub term-is : (cells t : List Cell) → term_of cells ≡ Ok t → t ≡ cells
-term-is cells t h =
-    elim (is_terms 1 cells) as (λ b. cond b (cond (is_numbered_from 0 cells) (Ok cells) (Err (BadNumbering cells))) (Err (NotOneTerm cells)) ≡ Ok t → t ≡ cells) [
-      | true ↦ elim (is_numbered_from 0 cells) as (λ b. cond b (Ok cells) (Err (BadNumbering cells)) ≡ Ok t → t ≡ cells) [
-        | true ↦ λ e. let same : t ≡ cells = cc in same
-        | false ↦ λ e. absurd (let none : ⊥ = cc in none)
-      ]
-      | false ↦ λ e. absurd (let none : ⊥ = cc in none)
-    ] h
 
 pub find-ok : (bounds : Bounds) (ops : Ops) (ts : List Token) (m r : Progress) (pieces : List (List Cell)) (left : ℕ) (result : Result (List Cell × ℕ) ReadError) →
     m.tokens ≡ ts → (list : List (List ℕ)) × (clause ops (lexemes [] m.tokens) ≡ primary (cells_of r.pieces) (lexemes list r.tokens)) → pieces ≡ r.pieces → left ≡ length r.tokens →

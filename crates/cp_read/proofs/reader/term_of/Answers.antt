@@ -1,12 +1,29 @@
-use Rattle.std.proofs.Common.{List, ◌∙◌, sym, subst}
-use Rattle.std.specs.Prelude.{Option}
+use Rattle.std.proofs.Common.{◌≡◌, true, List, ◌∙◌, ap, subst}
+use Rattle.std.specs.Prelude.{Option, Some}
 use Rattle.cp_term.specs.declared.cell.Cell.{Cell}
+use Rattle.cp_term.specs.Preorder.{is_terms}
+use Rattle.cp_term.specs.Numbering.{is_numbered_from}
+use Rattle.cp_read.specs.declared.bounds.Bounds.{Bounds}
+use Rattle.cp_read.specs.Clauses.{fits}
 use Rattle.cp_read.specs.Drafts.{cells_of}
 use Rattle.cp_read.specs.Filling.{IsWithin}
-use Rattle.cp_read.proofs.lemmas.ReadLaws.{term-is}
 use Rattle.cp_read.proofs.reader.term_of.Goals as goal
 
-pub returns-in-Ok : goal.returns-in-Ok
-returns-in-Ok c =
-    let within = subst (λ (o : Option (List Cell)). IsWithin c.args.bounds o (cells_of c.args.draft)) c.in-Some.is c.in_ok-into_cells.ensures in
-    (term-is c.in-Some.cells c.in-Ok.term (sym c.from_cells.ensures ∙ c.in-Ok.is) ∙ within.0, within.1)
+-- the list is these cells, which are within the bounds
+is_within : (bounds : Bounds) (o : Option (List Cell)) (list cells : List Cell) → o ≡ Some list → IsWithin bounds o cells → (list ≡ cells) × (fits bounds cells ≡ true)
+is_within bounds o list cells is h = subst (λ (x : Option (List Cell)). IsWithin bounds x cells) is h
+
+pub term_with-requires-clause-term : goal.term_with-requires-clause-term
+term_with-requires-clause-term c =
+    let w = is_within c.args.bounds _ c.in-Some.cells (cells_of c.args.draft) c.in-Some.is c.in_ok-into_cells.ensures in
+    ap (is_terms 1) (w.0) ∙ (c.requires (w.1)).0
+
+pub term_with-requires-clause-numbered : goal.term_with-requires-clause-numbered
+term_with-requires-clause-numbered c =
+    let w = is_within c.args.bounds _ c.in-Some.cells (cells_of c.args.draft) c.in-Some.is c.in_ok-into_cells.ensures in
+    ap (is_numbered_from 0) (w.0) ∙ (c.requires (w.1)).1
+
+pub returns-in-Some : goal.returns-in-Some
+returns-in-Some c =
+    let w = is_within c.args.bounds _ c.in-Some.cells (cells_of c.args.draft) c.in-Some.is c.in_ok-into_cells.ensures in
+    (c.term_with.ensures ∙ w.0, w.1)
