@@ -22,7 +22,7 @@ replace-apart x (Int i ∷ cells) out = ap (λ cs. Int i ∷ cs) (replace-apart 
 replace-apart x (Atom a ∷ cells) out = ap (λ cs. Atom a ∷ cs) (replace-apart x cells out)
 replace-apart x (Func f k ∷ cells) out = ap (λ cs. Func f k ∷ cs) (replace-apart x cells out)
 
-replace-own : (x : Binding) → replace x (Var x.var ∷ []) ≡ x.term
+pub replace-own : (x : Binding) → replace x (Var x.var ∷ []) ≡ x.term
 replace-own x = ap (λ t. cond t x.term (Var x.var ∷ []) ++ []) (eq-eqb x.var x.var refl) ∙ append-nil x.term
 
 replace-other : (x : Binding) (v : ℕ) → nat_eq x.var v ≡ false → replace x (Var v ∷ []) ≡ Var v ∷ []

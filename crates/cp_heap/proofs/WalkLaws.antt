@@ -1,25 +1,25 @@
 -- Walks along terms with a stack of places.
 use Rattle.std.proofs.Common.{◌≡◌, ℕ, zero, suc, ◌+◌, ◌-◌, ◌<◌, ◌≤◌, true, List, [], ◌∷◌, ◌++◌, length, take, drop, get_or, refl, sym, ◌∙◌, ap, subst, append_assoc, append-nil, arith, length-append, length-drop}
-use Rattle.std.specs.Prelude.{cond, Ok, Err}
+use Rattle.std.specs.Prelude.{cond, not, Ok, Err}
 use Rattle.std.specs.List.{flat_map}
 use Rattle.std.proofs.lemmas.Bool.{false≢true}
 use Rattle.std.proofs.lemmas.List.{get_or-drop}
 use Rattle.std.proofs.lemmas.List.Concat.{flat_map-append}
 use Rattle.std.proofs.Math.Seq.{take-suc}
 use Rattle.cp_term.specs.declared.cell.Cell.{Cell}
-use Rattle.cp_term.specs.declared.cell.Cell.TheVariants.{Var, Int, Func, Atom as AtomCell}
+use Rattle.cp_term.specs.declared.cell.Cell.TheVariants.{Int, Func, Atom as AtomCell}
 use Rattle.cp_term.specs.Preorder.{is_terms}
 use Rattle.cp_term.specs.Numbering.{renamed, place, seen_after, canon_from, canon, is_numbered_from, is_variable}
 use Rattle.cp_term.specs.TermOf.{term_of}
 use Rattle.cp_term.specs.declared.term.TermError.TheVariants.{NotOneTerm, BadNumbering}
 use Rattle.cp_term.specs.Substitution.{apply}
 use Rattle.cp_term.proofs.lemmas.SubstitutionLaws.{apply-append, apply-nil, apply-Int, apply-Atom, apply-Func}
-use Rattle.cp_term.proofs.lemmas.NumberingLaws.{length-canon_from, canon-IsNumbered, is_terms-canon_from}
+use Rattle.cp_term.proofs.lemmas.NumberingLaws.{length-canon_from, canon-IsNumbered}
 use Rattle.cp_heap.specs.declared.word.Word.{Word}
 use Rattle.cp_heap.specs.declared.word.Word.TheVariants.{Variable, Integer, Atom, Compound}
-use Rattle.cp_heap.specs.State.{State, term, substitution, IsEnd, instance_at}
+use Rattle.cp_heap.specs.State.{State, term, substitution, IsEnd, instance_at, is_value}
 use Rattle.cp_heap.specs.Layout.{word_term, IsPlaced}
-use Rattle.cp_heap.specs.Walk.{waiting, AreLive, places_from, is_word_of, first_cell, argument_places}
+use Rattle.cp_heap.specs.Walk.{waiting, AreLive, places_from, is_word_of, is_free_word, first_cell, argument_places}
 use Rattle.cp_heap.proofs.TrailLaws.{unbound}
 
 -- a stack in two parts
@@ -94,6 +94,12 @@ is_word names v (Integer i) = refl
 is_word names v (Atom a) = refl
 is_word names v (Compound k f first) = refl
 
+pub is_free : (names : List (List ℕ)) (w : Word) → is_value (first_cell names w) ≡ not (is_free_word w)
+is_free names (Variable u) = refl
+is_free names (Integer i) = refl
+is_free names (Atom a) = refl
+is_free names (Compound k f first) = refl
+
 -- one cell more is put out
 pub put_one : (s : State) (old new : List Cell) (seen seen2 stack stack2 : List ℕ) (at end : ℕ) (w : Word) (c : Cell) → new ≡ old ++ c ∷ [] → c ≡ renamed (place seen) (first_cell s.names w)
     → seen2 ≡ seen_after seen (first_cell s.names w) → stack2 ≡ stack ++ argument_places w → instance_at s end ≡ instance_at s at
@@ -112,8 +118,8 @@ some_cells [] one = absurd (false≢true one)
 some_cells (c ∷ cells) one = omega arith
 
 -- more cells wait than there is room for
-pub longer : (cells waits t : List Cell) (seen : List ℕ) → cells ++ canon_from seen waits ≡ canon t → 4096 ≤ length cells → 0 < length waits → 4096 < length t
-longer cells waits t seen e full some =
+pub longer : (most : ℕ) (cells waits t : List Cell) (seen : List ℕ) → cells ++ canon_from seen waits ≡ canon t → most ≤ length cells → 0 < length waits → most < length t
+longer most cells waits t seen e full some =
     let n = ap length e in
     omega (arith, length-append cells (canon_from seen waits), length-canon_from seen waits, length-canon_from [] t)
 

@@ -1,5 +1,6 @@
 -- What contracts see of a heap.
-use Rattle.std.specs.Prelude.{◌≡◌, ℕ, ◌<◌, ◌≤◌, true, false, cond, nat_eq, Option, Some, None, List, [], ◌∷◌, ◌++◌, length, take, get_or}
+use Rattle.std.specs.List.{list_all}
+use Rattle.std.specs.Prelude.{◌≡◌, ℕ, Bool, ◌<◌, ◌≤◌, true, false, cond, nat_eq, Option, Some, None, List, [], ◌∷◌, ◌++◌, length, take, get_or, map, All}
 use Rattle.cp_term.specs.declared.cell.Cell.{Cell}
 use Rattle.cp_term.specs.declared.cell.Cell.TheVariants.{Var, Int, Atom, Func}
 use Rattle.cp_term.specs.Preorder.{is_terms}
@@ -7,6 +8,7 @@ use Rattle.cp_term.specs.Numbering.{occurs, next_variable}
 use Rattle.cp_term.specs.Substitution.{Substitution, apply}
 use Rattle.cp_heap.specs.declared.bound.Bound.{Bound}
 use Rattle.cp_heap.specs.declared.mark.Mark.{Mark}
+use Rattle.cp_heap.specs.declared.reference.Ref.{Ref}
 
 -- The terms that were made, in order, each without the bindings; the bindings, in the order in which they were made;
 -- the number of variables, which are numbered from 0; and the table of names, which only grows.
@@ -99,6 +101,24 @@ pub record Extends (old new : State) : Type 0 where
 -- the instance of the term at a place
 abbrev pub instance_at : State → ℕ → List Cell
 instance_at h at = apply (substitution h) (term h at)
+
+-- no variable is left
+abbrev pub is_value : Cell → Bool
+is_value (Var v) = false
+is_value (Int i) = true
+is_value (Atom a) = true
+is_value (Func f k) = true
+
+abbrev pub is_ground : List Cell → Bool
+is_ground cells = list_all is_value cells
+
+-- each is a place of the heap
+abbrev pub AreRefs : State → List Ref → Type 0
+AreRefs h refs = All (λ r. r.at < length h.terms) refs
+
+-- the terms at these places
+abbrev pub terms_at : State → List Ref → List (List Cell)
+terms_at h refs = map (λ r. term h r.at) refs
 
 -- the number of a variable
 abbrev pub number_of : List Cell → ℕ

@@ -1,5 +1,5 @@
 -- Terms that are walked with a stack of places, whose top is last.
-use Rattle.std.specs.Prelude.{ℕ, zero, suc, Bool, false, nat_eq, ◌+◌, ◌<◌, List, [], ◌∷◌, ◌++◌, length, get_or}
+use Rattle.std.specs.Prelude.{ℕ, zero, suc, Bool, true, false, nat_eq, ◌+◌, ◌<◌, List, [], ◌∷◌, ◌++◌, length, get_or}
 use Rattle.cp_term.specs.declared.cell.Cell.{Cell}
 use Rattle.cp_term.specs.declared.cell.Cell.TheVariants.{Var, Int, Atom as AtomCell, Func}
 use Rattle.cp_heap.specs.declared.word.Word.{Word}
@@ -27,6 +27,13 @@ is_word_of v (Variable u) = nat_eq u v
 is_word_of v (Integer i) = false
 is_word_of v (Atom a) = false
 is_word_of v (Compound k f first) = false
+
+-- a word is a variable
+abbrev pub is_free_word : Word → Bool
+is_free_word (Variable u) = true
+is_free_word (Integer i) = false
+is_free_word (Atom a) = false
+is_free_word (Compound k f first) = false
 
 -- the first cell of what stands at a place, and the places of its arguments
 abbrev pub first_cell : List (List ℕ) → Word → Cell

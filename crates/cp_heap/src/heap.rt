@@ -1,10 +1,13 @@
 ghost use Rattle.std.specs.Prelude.{◌≡◌, ◌-◌, [], length};
-ghost use Rattle.cp_heap.specs.State.{IsLive, IsWellFormed, state_at};
+ghost use Rattle.cp_heap.specs.State.{State, Extends, IsLive, IsWellFormed, state_at};
 
 mod bindings;
+mod copy;
 mod export;
+mod ground;
 mod import;
 mod looking;
+mod making;
 mod walk;
 
 use crate::bound::Bound;
@@ -53,10 +56,11 @@ impl Heap {
         }
     }
 
-    /// How far the heap has grown.
+    /// How far the heap has grown. As long as it only grows it can be taken back to what it is now.
     pub fn mark(&self) -> Mark
         ensures live { IsLive result self.now }
         ensures whole { state_at result self.now ≡ self.now }
+        ensures later { (h : State) → Extends self.now h → IsLive result h × (state_at result h ≡ record self.now { names = h.names }) }
         ensures well_formed { IsWellFormed self.now }
     {
         Mark {

@@ -14,7 +14,7 @@ pub use export_error::ExportError;
 pub use heap::Heap;
 pub use look::Look;
 pub use mark::Mark;
-pub use reference::Ref;
+pub use reference::{Ref, Refs};
 pub use word::Word;
 
 #[cfg(test)]

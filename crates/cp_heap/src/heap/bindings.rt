@@ -53,6 +53,23 @@ impl Heap {
         self.cut(mark.terms, mark.variables);
     }
 
+    /// Takes the heap back to a mark where memory was wanting.
+    pub(super) fn keep_or_undo(
+        &mut self,
+        mark: Mark,
+        put: Result<Ref, AllocError>,
+    ) -> Result<Ref, AllocError>
+        requires { IsLive mark self.old }
+        ensures same { result ≡ put }
+        ensures ok { OnOk result (self.new ≡ self.old) }
+        ensures err { OnErr result (self.new ≡ state_at mark self.old) }
+    {
+        if put.is_err() {
+            self.undo_to(mark);
+        }
+        put
+    }
+
     /// The place at the end of a chain of bound variables.
     pub(super) fn end_of(&self, at: u32) -> u32
         requires { at < length self.now.terms }

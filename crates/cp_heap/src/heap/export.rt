@@ -24,19 +24,20 @@ impl Heap {
         ensures fits { OnOk result (length (instance_at self.now at.at) ≤ 4096) }
         ensures too_large { result ≡ Err ExportError.TooLarge → 4096 < length (instance_at self.now at.at) }
     {
-        let cells = self.exported(at.at)?;
+        let cells = self.exported(at.at, 4096)?;
         match Term::from_cells(cells) {
             Ok(term) => Ok(term),
             Err(_) => unreachable!(),
         }
     }
 
-    fn exported(&self, at: u32) -> Result<Cells, ExportError>
+    /// The cells of a term with all bindings, its variables numbered by first occurrence. More than `most` are too many.
+    pub(super) fn exported(&self, at: u32, most: u32) -> Result<Cells, ExportError>
         requires { at < length self.now.terms }
         ensures cells { IfOk result (λ cells. cells ≡ canon (instance_at self.now at)) }
         ensures term { IfOk result (λ cells. is_terms 1 cells ≡ true) }
-        ensures fits { OnOk result (length (instance_at self.now at) ≤ 4096) }
-        ensures too_large { result ≡ Err ExportError.TooLarge → 4096 < length (instance_at self.now at) }
+        ensures fits { OnOk result (length (instance_at self.now at) ≤ most) }
+        ensures too_large { result ≡ Err ExportError.TooLarge → most < length (instance_at self.now at) }
     {
         let mut cells = Cells::new(self.alloc);
         let mut seen = IndexSet::new(self.alloc);
@@ -45,7 +46,7 @@ impl Heap {
             match stack.pop() {
                 None => return Ok(cells),
                 Some(next) => {
-                    if cells.len() >= 4096 {
+                    if cells.len() >= most {
                         return Err(ExportError::TooLarge);
                     }
                     self.put_out(&mut cells, &mut seen, &mut stack, next)?;

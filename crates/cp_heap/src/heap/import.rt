@@ -1,5 +1,5 @@
 ghost use Rattle.std.specs.Prelude.{◌≡◌, true, ◌+◌, ◌-◌, ◌<◌, ◌≤◌, ◌^◌, [], ◌∷◌, ◌++◌, length, take, get_or, None, Some, IfOk, OnOk, OnErr};
-ghost use Rattle.cp_heap.specs.State.{term, Extends};
+ghost use Rattle.cp_heap.specs.State.{term, substitution, Extends};
 ghost use Rattle.cp_heap.specs.Stack.{AreReady, ArePut, FitsStack, IsOnStack};
 ghost use Rattle.cp_heap.specs.Layout.{word_term, IsPlaced};
 ghost use Rattle.cp_term.specs.Preorder.{arguments, is_terms};
@@ -17,18 +17,44 @@ impl Heap {
         ensures live { IfOk result (λ r. r.at < length self.new.terms) }
         ensures term { IfOk result (λ r. get_or self.new.terms r.at [] ≡ fresh self.old.variables term.now) }
         ensures variables { OnOk result (self.new.variables ≡ self.old.variables + next_variable term.now) }
-        ensures extends { OnOk result (Extends self.old self.new) }
+        ensures bindings { substitution self.new ≡ substitution self.old }
+        ensures extends { Extends self.old self.new }
+        ensures trail { self.new.trail ≡ self.old.trail }
+        ensures err { OnErr result (self.new ≡ record self.old { names = self.new.names }) }
+    {
+        self.import_cells(term.cells())
+    }
+
+    /// The same for the cells of a term. What was put is taken back where memory is wanting.
+    pub(super) fn import_cells(&mut self, cells: &[Cell]) -> Result<Ref, AllocError>
+        requires { is_terms 1 cells.now ≡ true }
+        ensures live { IfOk result (λ r. r.at < length self.new.terms) }
+        ensures term { IfOk result (λ r. term self.new r.at ≡ fresh self.old.variables cells.now) }
+        ensures variables { OnOk result (self.new.variables ≡ self.old.variables + next_variable cells.now) }
+        ensures bindings { substitution self.new ≡ substitution self.old }
+        ensures extends { Extends self.old self.new }
         ensures trail { self.new.trail ≡ self.old.trail }
         ensures err { OnErr result (self.new ≡ record self.old { names = self.new.names }) }
     {
         let mark = self.mark();
-        match self.put_apart(term.cells()) {
-            Ok(at) => return Ok(at),
-            Err(error) => {
-                self.undo_to(mark);
-                return Err(error);
-            }
-        }
+        let put = self.put_apart(cells);
+        self.keep_or_undo(mark, put)
+    }
+
+    /// Makes a term of the heap over variables that are there: the first is the one with the number `first`.
+    pub fn import_over(&mut self, term: &Term, first: u32) -> Result<Ref, AllocError>
+        requires { next_variable term.now + first ≤ self.old.variables }
+        ensures live { IfOk result (λ r. r.at < length self.new.terms) }
+        ensures term { IfOk result (λ r. get_or self.new.terms r.at [] ≡ fresh first term.now) }
+        ensures variables { self.new.variables ≡ self.old.variables }
+        ensures bindings { substitution self.new ≡ substitution self.old }
+        ensures extends { Extends self.old self.new }
+        ensures trail { self.new.trail ≡ self.old.trail }
+        ensures err { OnErr result (self.new ≡ record self.old { names = self.new.names }) }
+    {
+        let mark = self.mark();
+        let put = self.put_term(term.cells(), first);
+        self.keep_or_undo(mark, put)
     }
 
     /// Puts a term whose variables are new ones.

@@ -1,4 +1,3 @@
-use Rattle.std.proofs.Common.{sym, ◌∙◌}
 use Rattle.cp_heap.specs.State.{instance_at}
 use Rattle.cp_heap.proofs.WalkLaws.{is_term_of}
 use Rattle.cp_heap.proofs.heap.Heap.export.Goals as goal

@@ -1,6 +1,6 @@
-use Rattle.std.proofs.Common.{◌≡◌, [], ◌++◌, length, sym, ◌∙◌, ap, arith, length-append}
+use Rattle.std.proofs.Common.{[], ◌++◌, length, sym, ◌∙◌, ap, arith, length-append}
 use Rattle.std.proofs.lemmas.List.{nil_from_length}
-use Rattle.cp_term.specs.Numbering.{canon_from, canon}
+use Rattle.cp_term.specs.Numbering.{canon_from}
 use Rattle.cp_heap.specs.State.{State, instance_at}
 use Rattle.cp_heap.specs.Walk.{waiting}
 use Rattle.cp_heap.proofs.LookLaws.{one_term}
@@ -9,14 +9,14 @@ use Rattle.cp_term.specs.Preorder.{is_terms}
 use Rattle.cp_term.proofs.lemmas.NumberingLaws.{is_terms-canon_from}
 use Rattle.cp_heap.proofs.heap.Heap.exported.Goals as goal
 
-pub returns-then-len-ge4096-clause-too_large : goal.returns-then-len-ge4096-clause-too_large
-returns-then-len-ge4096-clause-too_large c e =
+pub returns-then-len-most-clause-too_large : goal.returns-then-len-most-clause-too_large
+returns-then-len-most-clause-too_large c e =
     let s : State = c.args.self.now in
     let top = top_live s c.out.stack.items c.pop.new.self.items c.in-Some.next c.in-Some.ensures.items c.out.invariant.0 in
     let some = some_cells (instance_at s c.in-Some.next) (one_term c.self.inside c.self.invariant s c.self.view_is c.in-Some.next top.1) in
     let n = ap length (top_waiting s c.out.stack.items c.pop.new.self.items c.in-Some.next c.in-Some.ensures.items) in
-    let full = c.if-len-ge4096.true in
-    longer c.out.cells (waiting s c.out.stack.items) (instance_at s c.args.at) c.out.seen.keys c.out.invariant.2 (omega arith) (omega (arith, length-append (instance_at s c.in-Some.next) (waiting s c.pop.new.self.items)))
+    let full = c.if-len-most.true in
+    longer c.args.most c.out.cells (waiting s c.out.stack.items) (instance_at s c.args.at) c.out.seen.keys c.out.invariant.2 (omega arith) (omega (arith, length-append (instance_at s c.in-Some.next) (waiting s c.pop.new.self.items)))
 
 pub put_out-requires-clause-live : goal.put_out-requires-clause-live
 put_out-requires-clause-live c = (top_live c.args.self.now c.out.stack.items c.pop.new.self.items c.in-Some.next c.in-Some.ensures.items c.out.invariant.0).1
@@ -28,7 +28,7 @@ pub out-preserved : goal.out-preserved
 out-preserved c =
     let s : State = c.args.self.now in
     let n = c.in_ok-put_out-in-Some.ensures.len in
-    let room = c.if-len-ge4096.false in (
+    let room = c.if-len-most.false in (
       c.in_ok-put_out-in-Some.ensures.live,
       omega arith,
       c.in_ok-put_out-in-Some.ensures.cells

@@ -5,7 +5,7 @@ use Rattle.cp_heap.specs.Walk.{waiting, AreLive}
 use Rattle.cp_heap.proofs.heap.Heap.exported.Given as goal
 
 abbrev pub invariant-out : goal.invariant-out
-invariant-out l = AreLive l.self l.stack.items × (length l.cells ≤ 4096) × (l.cells ++ canon_from l.seen.keys (waiting l.self l.stack.items) ≡ canon (instance_at l.self l.at))
+invariant-out l = AreLive l.self l.stack.items × (length l.cells ≤ l.most) × (l.cells ++ canon_from l.seen.keys (waiting l.self l.stack.items) ≡ canon (instance_at l.self l.at))
 
 abbrev pub decreases-out : goal.decreases-out
-decreases-out l = 4096 - length l.cells
+decreases-out l = l.most - length l.cells

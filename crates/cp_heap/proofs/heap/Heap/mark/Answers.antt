@@ -3,6 +3,7 @@ use Rattle.std.proofs.Math.Seq.{take-length}
 use Rattle.cp_heap.specs.State.{State}
 use Rattle.cp_heap.proofs.HeapLaws.{places, variables, trail}
 use Rattle.cp_heap.proofs.LookLaws.{well_formed}
+use Rattle.cp_heap.proofs.MarkLaws.{live_stays, state_stays}
 use Rattle.cp_heap.proofs.MoveLaws.{laid-live, same_state}
 use Rattle.cp_heap.proofs.heap.Heap.mark.Goals as goal
 
@@ -22,3 +23,9 @@ returns-clause-whole c =
 
 pub returns-clause-well_formed : goal.returns-clause-well_formed
 returns-clause-well_formed c = well_formed c.self.inside c.self.invariant c.args.self.now c.self.view_is
+
+pub returns-clause-later : goal.returns-clause-later
+returns-clause-later c h grown =
+    let live = returns-clause-live c in
+    let whole = returns-clause-whole c in
+    (live_stays _ c.args.self.now h live grown, state_stays _ c.args.self.now h live grown ∙ ap (λ (s : State). record s { names = h.names }) whole)

@@ -1,9 +1,8 @@
-use Rattle.std.proofs.Common.{◌≡◌, ◌∷◌, ◌++◌, ◌||◌, [], true, length, sym, ◌∙◌, ap, subst, arith}
+use Rattle.std.proofs.Common.{◌++◌, ◌||◌, length, sym, ◌∙◌, ap, subst, arith}
 use Rattle.std.proofs.lemmas.List.{nil_from_length}
-use Rattle.cp_term.specs.declared.cell.Cell.{Cell}
 use Rattle.cp_term.specs.Numbering.{occurs}
-use Rattle.cp_heap.specs.State.{State, instance_at}
-use Rattle.cp_heap.specs.Walk.{waiting, AreLive, first_cell, argument_places}
+use Rattle.cp_heap.specs.State.{State}
+use Rattle.cp_heap.specs.Walk.{waiting, AreLive, argument_places}
 use Rattle.cp_heap.proofs.WalkLaws.{top_live, live-append, argument_live, end_instance, popped, is_word}
 use Rattle.cp_heap.proofs.heap.Heap.occurs.Goals as goal
 

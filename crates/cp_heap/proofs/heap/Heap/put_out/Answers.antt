@@ -1,4 +1,4 @@
-use Rattle.std.proofs.Common.{sym, ◌∙◌, ap, subst, arith}
+use Rattle.std.proofs.Common.{sym, subst, arith}
 use Rattle.cp_heap.specs.State.{State}
 use Rattle.cp_heap.specs.Walk.{AreLive, argument_places}
 use Rattle.cp_heap.proofs.WalkLaws.{live-append, argument_live, end_instance, put_one}
