@@ -1,0 +1,5 @@
+pub mod Digits
+pub mod Growing
+pub mod Places
+pub mod Steps
+pub mod Texts
