@@ -1,0 +1,31 @@
+//! The builtin goals on the heap.
+#![tactic(auto)]
+
+mod argument;
+mod atom_codes;
+mod atom_length;
+mod ball;
+mod call;
+mod compound;
+mod copy;
+mod ended;
+mod errors;
+mod evaluate;
+mod functor;
+mod name_text;
+mod number_codes;
+mod order;
+mod outcome;
+mod parts;
+mod text_errors;
+mod type_tests;
+mod unified;
+mod univ;
+
+pub use call::call_builtin;
+pub use outcome::Outcome1;
+
+#[cfg(test)]
+mod list_tests;
+#[cfg(test)]
+mod tests;
