@@ -26,7 +26,7 @@ use Rattle.cp_code.specs.Code.{Code, Clause, Pred}
 use Rattle.cp_code.specs.Goals.{FactGoal, Builtin, OnTerms, Property, Write, NewLine, OnFacts, Post, Wait, builtin_goal, seen_pred}
 use Rattle.cp_code.specs.Requests.{Asking, Follows, Again, Facts, Fact, Number, Rest, Nothing, Raises, follows, handed_out, functor_of, full_name, fact_asking, post_goal, wait_goal, answers_of, RemoteFollows, Fails, Throws, Breaks, is_unbound}
 use Rattle.cp_code.specs.Tree as trees
-use Rattle.cp_code.specs.Tree.{Item, Goal, AskFrom, CutNow, Leave, Copy, Exit, Demands, Renamed, End, Done, CutTo, Throw, Steps, Waiting, Left, Run, Ends, Tree, in_turn, cut_at, opened, cut_behind, charge_of, charge, read_of, read, with_copies, throw_copy, throw_if, extended, enter_body, enter_goal, enter_seen, enter, rest_if, clause_if, clauses, behind, demand_if, exit_if, call_rules, rules_of_kind, call_renamed, facts_if, fact_if, followed, asked, ask, ask_or_raise, wrote, write, behind_answers, each_answer, answered, call_remote, is_among, recover_if, caught, apart, variables_in, collected, copied, ended, qualified, call_kind, first_of, piece_of, builtin_row, called_row, named_row, functor_row, plain_row, body_row, answer, without_module, row, nothing, whole_row, tree_to, tree}
+use Rattle.cp_code.specs.Tree.{Item, Goal, AskFrom, CutNow, Leave, Copy, Exit, Demands, Renamed, End, Done, CutTo, Throw, Steps, Waiting, Left, Run, Ends, Tree, in_turn, cut_at, opened, cut_behind, charge_of, charge, read_of, read, with_copies, throw_copy, throw_if, extended, enter_body, enter_goal, enter_seen, enter, rest_if, body_before, clause_if, clauses, behind, demand_if, exit_if, call_rules, rules_of_kind, call_renamed, facts_if, fact_if, followed, asked, ask, ask_or_raise, wrote, write, behind_answers, each_answer, answered, call_remote, is_among, recover_if, caught, apart, variables_in, collected, copied, ended, qualified, call_kind, first_of, piece_of, builtin_row, called_row, named_row, functor_row, plain_row, body_row, answer, without_module, row, nothing, whole_row, tree_to, tree}
 
 -- the units and inputs that are left
 abbrev pub size : Left → ℕ
@@ -157,6 +157,10 @@ module _ (Q : List Item → Type 0) (keep : IsKept Q) where
   kept_behind p [] g rest ok = ok
   kept_behind p (c ∷ cs) g rest ok = keep.exit p (c ∷ cs) g rest ok
 
+  pub kept_body : (b : Option Body) (next level : ℕ) (rest : List Item) → Q rest → Q (body_before b next level rest)
+  kept_body None next level rest ok = ok
+  kept_body (Some b) next level rest ok = keep.goal (fresh_body next b) level rest ok
+
 module _ (Q : List Item → Type 0) (keep : IsKept Q) (A B : Tree) (m : ℕ) (hyp : AreAlike Q m A B) where
   pub enter_body_same : (b : Option Body) (g ctx : List Cell) (rest : List Item) (ok : Q rest) (s : Substitution) (next level : ℕ) (left : Left) → size left < m → Within (size left) (enter_body A b g ctx rest s next level left) (enter_body B b g ctx rest s next level left)
   enter_body_same None g ctx rest ok s next level left lt = within_end (size left) _ left (omega arith)
@@ -181,7 +185,7 @@ module _ (Q : List Item → Type 0) (keep : IsKept Q) (A B : Tree) (m : ℕ) (hy
 
   pub clause_same : (o : Option Substitution) (c : Clause) (rest : List Item) (ok : Q rest) (next level : ℕ) (left : Left) → size left < m → Within (size left) (clause_if A o c rest next level left) (clause_if B o c rest next level left)
   clause_same None c rest ok next level left lt = within_end (size left) Done left (omega arith)
-  clause_same (Some s) c rest ok next level left lt = hyp (Goal (fresh_body next c.body) level ∷ rest) (keep.goal (fresh_body next c.body) level rest ok) s (next + c.variables) level left lt
+  clause_same (Some s) c rest ok next level left lt = hyp (body_before c.body next level rest) (kept_body Q keep c.body next level rest ok) s (next + c.variables) level left lt
 
   pub clauses_same : (cs : List Clause) (g : List Cell) (rest : List Item) (ok : Q rest) (s : Substitution) (next level : ℕ) (left : Left) → size left < m → Within (size left) (clauses A cs g rest s next level left) (clauses B cs g rest s next level left)
   clauses_same [] g rest ok s next level left lt = within_end (size left) Done left (omega arith)

@@ -14,14 +14,14 @@ use Rattle.cp_goal.specs.Lists.{list_term}
 use Rattle.cp_call.specs.declared.item.PutReply.TheVariants as put
 use Rattle.cp_call.specs.declared.item.Input.{Input}
 use Rattle.cp_call.specs.declared.item.Input.TheVariants as input
-use Rattle.cp_code.specs.Bodies.{Body, Cut, True, Fail, Both, Either, Choose, CallOf, CatchOf, ThrowOf, FindAll, Plain, body_of, fresh_body, Seen, seen_from}
+use Rattle.cp_code.specs.Bodies.{Body, Cut, True, Fail, Both, Either, Choose, CallOf, CatchOf, ThrowOf, FindAll, Plain, body_of, Seen, seen_from}
 use Rattle.cp_code.specs.Properties.{has}
 use Rattle.cp_code.specs.Checks.{Check, broken_call, held, broken_exit}
 use Rattle.cp_code.specs.Code.{Code, Clause, Pred, Kind, Rules, Shared, Remote, Wrapped}
 use Rattle.cp_code.specs.Goals.{Builtin, OnTerms, Property, Write, NewLine, OnFacts, Post, Wait, builtin_goal, seen_pred}
 use Rattle.cp_code.specs.Requests.{Asking, Follows, Again, Facts, Fact, Number, Rest, Nothing, Raises, follows, handed_out, functor_of, full_name, fact_asking, pred_asking, post_goal, wait_goal, answers_of, RemoteFollows, is_unbound}
 use Rattle.cp_code.specs.Requests as after_answers
-use Rattle.cp_code.specs.Tree.{Item, Goal, AskFrom, CutNow, Leave, Copy, Exit, Demands, Renamed, extended, behind, rules_of_kind, is_among, apart, variables_in, qualified, piece_of, first_of, without_module}
+use Rattle.cp_code.specs.Tree.{Item, Goal, AskFrom, CutNow, Leave, Copy, Exit, Demands, Renamed, extended, behind, rules_of_kind, is_among, apart, variables_in, body_before, qualified, piece_of, first_of, without_module}
 use Rattle.cp_code.specs.Ends.{Named}
 use Rattle.cp_code.specs.Machine.{Frame, Alternative, Clauses, Mark, Catching, Gathering, Answering, Point, Runs, Tests, Tries, Gives, Fails, Throws, Asks, Writes, Calls, Answers, Stops, State, drop_to, Move, to, raises, throws_copy, throws_if, runs_if, enters_body, enters_goal, enters_if, enters, demanded, rules_move, asks_or_raises, calls_remote, calls_kind, writes_if, passes_if, ends_as, builtin_move, called_move, named_move, functor_move, goal_move, charged, body_move, exits, copies_move, answers_move, item_move, clause_move, tries_move, behind_move, answer_move, gives_move, renamed_move, fail_move, recovers, throw_move, point_move, move, facts_told, reply_told, asks_told, writes_told, calls_told, point_told, told, first_state}
 use Rattle.cp_code.specs.Valid.{Cuttable, UpTo, CutIn, Fits, FramesOk, PointOk, Ok as StateOk}
@@ -75,6 +75,11 @@ fits_rest b l rest level fs t = record { plain = t.plain; sorted = t.sorted.1; c
 -- a goal in the place of another one of its level
 fits_goal : (b : Body) (l : ℕ) (rest : List Item) (level : ℕ) (fs : List Frame) → Fits (CutNow l ∷ rest) level fs → Fits (Goal b l ∷ rest) level fs
 fits_goal b l rest level fs t = record { plain = t.plain; sorted = t.sorted; cuts = t.cuts; below = t.below }
+
+-- the body of a clause, if it has one, in the place of the cut to its level
+fits_body : (b : Option Body) (next l : ℕ) (rest : List Item) (level : ℕ) (fs : List Frame) → Fits (CutNow l ∷ rest) level fs → Fits (body_before b next l rest) level fs
+fits_body None next l rest level fs t = record { plain = t.plain; sorted = t.sorted.1; cuts = t.cuts.1; below = t.below.1 }
+fits_body (Some b) next l rest level fs t = record { plain = t.plain; sorted = t.sorted; cuts = t.cuts; below = t.below }
 
 fits_as : (a b : Body) (l : ℕ) (rest : List Item) (level : ℕ) (fs : List Frame) → Fits (Goal a l ∷ rest) level fs → Fits (Goal b l ∷ rest) level fs
 fits_as a b l rest level fs t = record { plain = t.plain; sorted = t.sorted; cuts = t.cuts; below = t.below }
@@ -372,8 +377,8 @@ items_ok code goal (Copy x ctx ∷ rest) s next level units copies fs f h = copi
 clause_ok : (o : Option Substitution) (c : Clause) (cs : List Clause) (g : List Cell) (rest : List Item) (s : Substitution) (next level : ℕ) → GoesOn (CutNow level ∷ rest) level (clause_move o c cs g rest s next level)
 clause_ok None c cs g rest s next level units copies fs f h = ok (Tries cs g rest s next level) units copies fs f h
 clause_ok (Some s') c cs g rest s next level units copies fs f h =
-    ok (Runs (Goal (fresh_body next c.body) level ∷ rest) s' (next + c.variables) level) units copies (Clauses cs g rest s next level ∷ fs)
-    (fits_on level level fs (Clauses cs g rest s next level ∷ fs) (omega arith) (λ j jl k. k) (Goal (fresh_body next c.body) level ∷ rest) (fits_goal _ level rest level fs f))
+    ok (Runs (body_before c.body next level rest) s' (next + c.variables) level) units copies (Clauses cs g rest s next level ∷ fs)
+    (fits_on level level fs (Clauses cs g rest s next level ∷ fs) (omega arith) (λ j jl k. k) (body_before c.body next level rest) (fits_body c.body next level rest level fs f))
     (f, h)
 
 tries_ok : (cs : List Clause) (g : List Cell) (rest : List Item) (s : Substitution) (next level : ℕ) → GoesOn (CutNow level ∷ rest) level (tries_move cs g rest s next level)

@@ -81,7 +81,10 @@ body_or_fail (Some b) = b
 body_or_fail None = Fail
 
 abbrev rule : (variables : ℕ) → (head body : List Cell) → Clause
-rule variables head body = record { head = head; body = body_or_fail (body_of m body); variables = variables }
+rule variables head body = record { head = head; body = Some (body_or_fail (body_of m body)); variables = variables }
+
+abbrev fact : (variables : ℕ) → (head : List Cell) → Clause
+fact variables head = record { head = head; body = None; variables = variables }
 
 abbrev pred : String → ℕ → Kind → Pred
 pred name arity kind = record { name = record { «module» = m; name = codes name; arity = arity }; goals = []; kind = kind }
@@ -136,6 +139,19 @@ main_calls_itself = refl
 a_negation_costs_three : run 4 [] (f1 "\\+" (a "fail")) [] ≡ found
 unfolding body_of fresh_body seen_from builtin_goal tree holds broken_call held broken_exit
 a_negation_costs_three = refl
+
+-- a fact costs nothing beside its call, and a rule with the body `true` one unit more
+a_fact_costs_nothing : run 2 (pred "p" 1 (Rules [] (fact 0 (f1 "p" (n 1)) ∷ [])) ∷ []) (f1 "p" (n 1)) [] ≡ found
+unfolding body_of fresh_body seen_from builtin_goal tree holds broken_call held broken_exit
+a_fact_costs_nothing = refl
+
+less_than_its_call : run 1 (pred "p" 1 (Rules [] (fact 0 (f1 "p" (n 1)) ∷ [])) ∷ []) (f1 "p" (n 1)) [] ≡ request.End how.Steps
+unfolding body_of fresh_body seen_from builtin_goal tree holds broken_call held broken_exit
+less_than_its_call = refl
+
+true_costs_a_unit : run 2 (pred "p" 1 (Rules [] (rule 0 (f1 "p" (n 1)) (a "true") ∷ [])) ∷ []) (f1 "p" (n 1)) [] ≡ request.End how.Steps
+unfolding body_of fresh_body seen_from builtin_goal tree holds broken_call held broken_exit
+true_costs_a_unit = refl
 
 a_call_costs_2 : run 3 [] (f1 "call" (a "true")) [] ≡ found
 unfolding body_of fresh_body seen_from builtin_goal tree holds broken_call held broken_exit
@@ -416,7 +432,7 @@ abbrev twice : Pred
 twice = record {
   name = record { «module» = codes "b"; name = codes "twice"; arity = 1 };
   goals = true ∷ [];
-  kind = Rules [] (record { head = f1 "twice" (v 0); body = body_or_fail (body_of (codes "b") (also (f1 "call" (v 0)) (f1 "call" (v 0)))); variables = 1 } ∷ []);
+  kind = Rules [] (record { head = f1 "twice" (v 0); body = Some (body_or_fail (body_of (codes "b") (also (f1 "call" (v 0)) (f1 "call" (v 0))))); variables = 1 } ∷ []);
 }
 
 abbrev twice_hi : Code

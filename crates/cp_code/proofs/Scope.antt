@@ -18,14 +18,14 @@ use Rattle.cp_call.specs.declared.item.Next.{Next}
 use Rattle.cp_call.specs.declared.item.Next.TheVariants as request
 use Rattle.cp_call.specs.declared.item.Input.{Input}
 use Rattle.cp_call.specs.declared.item.Input.TheVariants as input
-use Rattle.cp_code.specs.Bodies.{Body, Cut, True, Fail, Both, Either, Choose, CallOf, CatchOf, ThrowOf, FindAll, Plain, body_of, fresh_body, Seen, seen_from}
+use Rattle.cp_code.specs.Bodies.{Body, Cut, True, Fail, Both, Either, Choose, CallOf, CatchOf, ThrowOf, FindAll, Plain, body_of, Seen, seen_from}
 use Rattle.cp_code.specs.Properties.{has}
 use Rattle.cp_code.specs.Checks.{Check, held}
 use Rattle.cp_code.specs.Code.{Code, Clause, Pred}
 use Rattle.cp_code.specs.Goals.{Builtin, OnTerms, Property, Write, NewLine, OnFacts, Post, Wait, builtin_goal, seen_pred}
 use Rattle.cp_code.specs.Requests.{Asking, Follows, Again, Facts, Fact, Number, Rest, Nothing, Raises, follows, handed_out, functor_of, full_name, fact_asking, post_goal, wait_goal, answers_of, RemoteFollows, Fails, Throws, Breaks, is_unbound}
 use Rattle.cp_code.specs.Tree as trees
-use Rattle.cp_code.specs.Tree.{Item, Goal, AskFrom, CutNow, Leave, Copy, Exit, Demands, Renamed, End, Done, CutTo, Throw, Steps, Waiting, Left, Run, Ends, Tree, in_turn, cut_at, opened, cut_behind, charge_of, charge, read_of, read, with_copies, throw_copy, throw_if, extended, enter_body, enter_goal, enter_seen, enter, rest_if, clause_if, clauses, behind, demand_if, exit_if, call_rules, rules_of_kind, call_renamed, facts_if, fact_if, followed, asked, ask, ask_or_raise, wrote, write, behind_answers, each_answer, answered, call_remote, is_among, recover_if, caught, apart, variables_in, collected, copied, ended, qualified, call_kind, first_of, piece_of, builtin_row, called_row, named_row, functor_row, plain_row, body_row, answer, without_module, row, nothing, whole_row, tree_to, tree}
+use Rattle.cp_code.specs.Tree.{Item, Goal, AskFrom, CutNow, Leave, Copy, Exit, Demands, Renamed, End, Done, CutTo, Throw, Steps, Waiting, Left, Run, Ends, Tree, in_turn, cut_at, opened, cut_behind, charge_of, charge, read_of, read, with_copies, throw_copy, throw_if, extended, enter_body, enter_goal, enter_seen, enter, rest_if, body_before, clause_if, clauses, behind, demand_if, exit_if, call_rules, rules_of_kind, call_renamed, facts_if, fact_if, followed, asked, ask, ask_or_raise, wrote, write, behind_answers, each_answer, answered, call_remote, is_among, recover_if, caught, apart, variables_in, collected, copied, ended, qualified, call_kind, first_of, piece_of, builtin_row, called_row, named_row, functor_row, plain_row, body_row, answer, without_module, row, nothing, whole_row, tree_to, tree}
 use Rattle.std.specs.Prelude.{slice_get}
 use Rattle.cp_code.specs.Checks.{broken_call, broken_exit}
 use Rattle.cp_code.specs.Code.{Kind, Rules, Shared, Remote, Wrapped}
@@ -117,6 +117,10 @@ module _ (P : ℕ → Type 0) where
   abbrev EndWell : Tree → Type 0
   EndWell T = (items : List Item) (s : Substitution) (next level : ℕ) (left : Left) → New level → Named P items → Ended P (T items s next level left)
 
+  named_body : (b : Option Body) (next level : ℕ) (rest : List Item) → P level → Named P rest → Named P (body_before b next level rest)
+  named_body None next level rest p h = h
+  named_body (Some b) next level rest p h = (p, h)
+
   module _ (T : Tree) (hyp : EndWell T) where
     enter_body_ends : (b : Option Body) (g ctx : List Cell) (rest : List Item) (s : Substitution) (next level : ℕ) (left : Left) → New level → Named P rest → Ended P (enter_body T b g ctx rest s next level left)
     enter_body_ends None g ctx rest s next level left new h = named_catchers rest h
@@ -142,7 +146,7 @@ module _ (P : ℕ → Type 0) where
 
     clause_ends : (o : Option Substitution) (c : Clause) (rest : List Item) (next level : ℕ) (left : Left) → New level → P level → Named P rest → Ended P (clause_if T o c rest next level left)
     clause_ends None c rest next level left new p h = tt
-    clause_ends (Some s) c rest next level left new p h = hyp (Goal (fresh_body next c.body) level ∷ rest) s (next + c.variables) level left new (p, h)
+    clause_ends (Some s) c rest next level left new p h = hyp (body_before c.body next level rest) s (next + c.variables) level left new (named_body c.body next level rest p h)
 
     clauses_end : (cs : List Clause) (g : List Cell) (rest : List Item) (s : Substitution) (next level : ℕ) (left : Left) → New level → P level → Named P rest → Ended P (clauses T cs g rest s next level left)
     clauses_end [] g rest s next level left new p h = tt

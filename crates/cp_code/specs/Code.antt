@@ -7,10 +7,10 @@ use Rattle.cp_code.specs.Bodies.{Body}
 use Rattle.cp_code.specs.Properties.{TypeRow}
 use Rattle.cp_code.specs.Checks.{Check}
 
--- a clause, with its variables numbered from 0
+-- a clause, with its variables numbered from 0; a fact has no body
 pub record Clause : Type 0 where
   pub head : List Cell
-  pub body : Body
+  pub body : Option Body
   pub variables : ℕ
 
 pub data Kind : Type 0 where

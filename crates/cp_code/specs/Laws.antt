@@ -1,14 +1,15 @@
 -- What holds of trees.
-use Rattle.std.specs.Prelude.{◌≡◌, ◌<◌, Bool, IsTrue, ℕ, List, Some}
+use Rattle.std.specs.Prelude.{◌≡◌, ◌*◌, ◌<◌, ◌≤◌, Bool, IsTrue, ℕ, suc, List, length, Some}
 use Rattle.cp_term.specs.declared.cell.Cell.{Cell}
 use Rattle.cp_term.specs.Substitution.{Substitution}
 use Rattle.cp_code.specs.Code.{Code}
+use Rattle.cp_code.specs.Properties.{TypeRow, Test, of_language, test_by, has_within, has}
 use Rattle.cp_call.specs.declared.item.Input.{Input}
 use Rattle.cp_code.specs.Ends.{Named, Ended}
 use Rattle.cp_code.specs.Units.{with_more, More}
 use Rattle.cp_code.specs.Instrument.{instrument, ArePlain}
 use Rattle.cp_call.specs.declared.item.Next.{Next}
-use Rattle.cp_code.specs.Machine.{first_state}
+use Rattle.cp_code.specs.Machine.{State, first_state}
 use Rattle.cp_code.specs.Walk.{walk}
 use Rattle.cp_code.specs.Tree.{asks, Item, Left, tree, whole_row}
 
@@ -34,3 +35,29 @@ MachineAsksAsTheTree = (code : Code) (goal : List Cell) (inputs : List Input) (s
 abbrev pub MoreUnitsChangeNothing : Type 0
 MoreUnitsChangeNothing = (code : Code) (goal : List Cell) (items : List Item) (s : Substitution) (next level : ℕ) (left : Left) (more : ℕ)
     → More more (tree code goal items s next level left) (tree code goal items s next level (with_more more left))
+
+-- a property of the language or a regular type holds of a term at every greater depth where it holds at that of `has`, and
+-- nowhere else
+abbrev pub DepthIsEnough : Type 0
+DepthIsEnough = (types : List TypeRow) (name : List ℕ) (t : List Cell) (n : ℕ) → suc (length types) * suc (length t) ≤ n → has_within types n name t ≡ has types name t
+
+-- what `has` says of a term is what the clauses of the type say, with `has` itself for the properties that they demand
+abbrev pub HasIsItsRow : Type 0
+HasIsItsRow = (types : List TypeRow) (name : List ℕ) (t : List Cell) → has types name t ≡ test_by types (has types) (of_language name t) name t
+
+-- and it is the least test of which this is so: it holds nowhere where a test does not that holds where the clauses say so
+abbrev pub HasIsLeast : Type 0
+HasIsLeast = (types : List TypeRow) (test : Test)
+    → ((name : List ℕ) (t : List Cell) → IsTrue (test_by types test (of_language name t) name t) → IsTrue (test name t))
+    → (name : List ℕ) (t : List Cell) → IsTrue (has types name t) → IsTrue (test name t)
+
+-- from a state the machine comes to a request, an answer or an end behind all inputs, in some number of steps
+abbrev pub Comes : Code → List Cell → State → List Input → Type 0
+Comes code goal st inputs = (steps : ℕ) × (n : Next) × (walk code goal steps st inputs ≡ Some n)
+
+abbrev pub MachineComesToAnAnswer : Type 0
+MachineComesToAnAnswer = (code : Code) (goal : List Cell) (st : State) (inputs : List Input) → Comes code goal st inputs
+
+-- from its first state it comes to what the goal's tree asks
+abbrev pub MachineComesToTheAnswer : Type 0
+MachineComesToTheAnswer = (code : Code) (goal : List Cell) (inputs : List Input) → (steps : ℕ) × (walk code goal steps (first_state code goal) inputs ≡ Some (asks code goal inputs))

@@ -12,3 +12,7 @@ pub mod Machine
 pub mod Valid
 pub mod Walk
 pub mod Laws
+pub mod Clauses
+pub mod Candidates
+pub mod Programs
+pub mod Lawful

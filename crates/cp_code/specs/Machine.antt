@@ -18,14 +18,14 @@ use Rattle.cp_call.specs.declared.item.Next.{Next}
 use Rattle.cp_call.specs.declared.item.Next.TheVariants as request
 use Rattle.cp_call.specs.declared.item.Input.{Input}
 use Rattle.cp_call.specs.declared.item.Input.TheVariants as input
-use Rattle.cp_code.specs.Bodies.{Body, Cut, True, Fail, Both, Either, Choose, CallOf, CatchOf, ThrowOf, FindAll, Plain, body_of, fresh_body, Seen, seen_from}
+use Rattle.cp_code.specs.Bodies.{Body, Cut, True, Fail, Both, Either, Choose, CallOf, CatchOf, ThrowOf, FindAll, Plain, body_of, Seen, seen_from}
 use Rattle.cp_code.specs.Properties.{has}
 use Rattle.cp_code.specs.Checks.{Check, broken_call, held, broken_exit}
 use Rattle.cp_code.specs.Code.{Code, Clause, Pred, Kind, Rules, Shared, Remote, Wrapped}
 use Rattle.cp_code.specs.Goals.{Builtin, OnTerms, Property, Write, NewLine, OnFacts, Post, Wait, builtin_goal, seen_pred}
 use Rattle.cp_code.specs.Requests.{Asking, Follows, Again, Facts, Fact, Number, Rest, Nothing, Raises, follows, handed_out, functor_of, full_name, existence_error, system_error, fact_asking, pred_asking, post_goal, wait_goal, answers_of, RemoteFollows, is_unbound, has_module}
 use Rattle.cp_code.specs.Requests as after_answers
-use Rattle.cp_code.specs.Tree.{Item, Goal, AskFrom, CutNow, Leave, Copy, Exit, Demands, Renamed, catchers, Done, Throw, Steps, Left, Run, Ends, Tree, in_turn, opened, read, check_ball, extended, behind, rules_of_kind, is_among, apart, variables_in, qualified, piece_of, first_of, goal_context, without_module, clauses, caught, collected, asked, wrote, answered, each_answer, next_of}
+use Rattle.cp_code.specs.Tree.{Item, Goal, AskFrom, CutNow, Leave, Copy, Exit, Demands, Renamed, catchers, Done, Throw, Steps, Left, Run, Ends, Tree, in_turn, opened, read, check_ball, extended, behind, rules_of_kind, is_among, apart, variables_in, body_before, qualified, piece_of, first_of, goal_context, without_module, clauses, caught, collected, asked, wrote, answered, each_answer, next_of}
 
 pub data Frame : Type 0 where
   -- other goals
@@ -263,7 +263,7 @@ item_move code goal (Copy x ctx ∷ rest) s next level units copies fs = copies_
 abbrev pub clause_move : Option Substitution → Clause → List Clause → List Cell → List Item → Substitution → ℕ → ℕ → Move
 clause_move None c cs g rest s next level units copies fs = to (Tries cs g rest s next level) units copies fs
 clause_move (Some s') c cs g rest s next level units copies fs =
-    to (Runs (Goal (fresh_body next c.body) level ∷ rest) s' (next + c.variables) level) units copies (Clauses cs g rest s next level ∷ fs)
+    to (Runs (body_before c.body next level rest) s' (next + c.variables) level) units copies (Clauses cs g rest s next level ∷ fs)
 
 abbrev pub tries_move : List Clause → List Cell → List Item → Substitution → ℕ → ℕ → Move
 tries_move [] g rest s next level = to Fails

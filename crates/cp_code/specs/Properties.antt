@@ -68,9 +68,9 @@ matched (Var v ∷ pattern) terms = with_place v (take_terms 1 terms) (matched p
 matched (c ∷ pattern) [] = None
 matched (c ∷ pattern) (d ∷ terms) = if cell_eq c d then matched pattern terms else None
 
-abbrev pub term_at : ℕ → List Place → List Cell
-term_at v [] = Var v ∷ []
-term_at v (p ∷ places) = if nat_eq v p.var then p.term else term_at v places
+abbrev pub term_at : ℕ → List Place → Option (List Cell)
+term_at v [] = None
+term_at v (p ∷ places) = if nat_eq v p.var then Some p.term else term_at v places
 
 -- the pattern and the body of a clause of a type
 pub record TypeClause : Type 0 where
@@ -106,14 +106,19 @@ abbrev pub first_name : List Cell → List ℕ
 first_name (Atom a ∷ cells) = a
 first_name cells = []
 
-abbrev pub variable_term : List Place → List Cell → List Cell
+-- the term at the place of a variable; nothing else has a place
+abbrev pub variable_term : List Place → List Cell → Option (List Cell)
 variable_term places (Var v ∷ cells) = term_at v places
-variable_term places cells = cells
+variable_term places cells = None
+
+abbrev pub passes : (List Cell → Bool) → Option (List Cell) → Bool
+passes test None = false
+passes test (Some t) = test t
 
 -- `u(Y)` and `list(Y, u)` of the terms at the places of the variables
 abbrev pub demand_met : Test → List Place → List ℕ → List (List Cell) → Bool
-demand_met test places name (y ∷ []) = test name (variable_term places y)
-demand_met test places name (y ∷ u ∷ []) = is name "list" && all_pass test (first_name u) (spine (variable_term places y))
+demand_met test places name (y ∷ []) = passes (test name) (variable_term places y)
+demand_met test places name (y ∷ u ∷ []) = is name "list" && passes (λ t. all_pass test (first_name u) (spine t)) (variable_term places y)
 demand_met test places name parts = false
 
 abbrev pub goal_met : Test → List Place → List Cell → Bool
@@ -145,11 +150,13 @@ test_by types again (Some passed) name t = passed
 test_by types again None name t = has_row again t (row_named name types)
 
 -- Whether a term as it stands has a property of the language or a regular type, at most n steps down. A step goes to a part
--- of the term, or from a type to an earlier one.
+-- of the term, or from one type to another of the same term.
 abbrev pub has_within : List TypeRow → ℕ → Test
 has_within types zero name t = false
 has_within types (suc n) name t = test_by types (has_within types n) (of_language name t) name t
 
+-- The depth of one more than the number of types times one more than the size of the term is enough: a greater one changes
+-- nothing (the law `DepthIsEnough`).
 abbrev pub has : List TypeRow → Test
 has types name t = has_within types (suc (length types) * suc (length t)) name t
 

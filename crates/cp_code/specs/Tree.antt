@@ -205,10 +205,15 @@ rest_if again (Some s) rest next level left = again rest s next level left
 
 -- ---- predicates with rules
 
+-- a clause's body in front of the rest, at the level of its call; a fact has none, and costs no unit
+abbrev pub body_before : Option Body → (next level : ℕ) → List Item → List Item
+body_before None next level rest = rest
+body_before (Some b) next level rest = Goal (fresh_body next b) level ∷ rest
+
 -- the clauses of a predicate in turn, at the level that was opened for the call
 abbrev pub clause_if : Tree → Option Substitution → Clause → List Item → ℕ → ℕ → Left → Run
 clause_if again None c rest next level left = Ends Done left
-clause_if again (Some s) c rest next level left = again (Goal (fresh_body next c.body) level ∷ rest) s (next + c.variables) level left
+clause_if again (Some s) c rest next level left = again (body_before c.body next level rest) s (next + c.variables) level left
 
 abbrev pub clauses : Tree → List Clause → List Cell → List Item → Substitution → ℕ → ℕ → Left → Run
 clauses again [] g rest s next level left = Ends Done left

@@ -1,5 +1,7 @@
 // Laws of the definition of resolution, for the crates above.
-ghost use Rattle.cp_code.specs.Laws.{TreeIsRow, InstrumentedAsks, EndsAreNamed, MachineAsksAsTheTree, MoreUnitsChangeNothing};
+ghost use Rattle.cp_code.specs.Candidates.{OthersDoNotUnify, OthersAreLeftOut, NoneFindNothing, OthersAreMovedOver, NoneMovesToAFailure};
+ghost use Rattle.cp_code.specs.Lawful.{AsksAreInForm, ProgramsAskInForm};
+ghost use Rattle.cp_code.specs.Laws.{MachineComesToAnAnswer, MachineComesToTheAnswer, DepthIsEnough, HasIsItsRow, HasIsLeast, TreeIsRow, InstrumentedAsks, EndsAreNamed, MachineAsksAsTheTree, MoreUnitsChangeNothing};
 
 /// The tree of a list of goals is what the table says of its first goal, with the trees of the other lists of goals: the
 /// depth to which the definition goes down is never met.
@@ -27,4 +29,36 @@ pub fn the_machine_asks_as_the_tree()
 /// A tree that does not end for want of units is the same with more of them, which are left over.
 pub fn more_units_change_nothing()
     ensures { MoreUnitsChangeNothing }
+{}
+
+/// A goal unifies with no clause whose first argument cannot match its own. So the tree of a call is the same where only the
+/// clauses are tried that `Program::candidates` gives, and the machine moves over the others without a unit.
+pub fn candidates_are_enough()
+    ensures alone { OthersDoNotUnify }
+    ensures some { OthersAreLeftOut }
+    ensures none { NoneFindNothing }
+    ensures moves { OthersAreMovedOver }
+    ensures fails { NoneMovesToAFailure }
+{}
+
+/// What a term has by the properties of the language and the regular types of a program is the least that the clauses of the
+/// types say: the depth to which the definition goes down is never met.
+pub fn properties_are_the_least()
+    ensures depth { DepthIsEnough }
+    ensures row { HasIsItsRow }
+    ensures least { HasIsLeast }
+{}
+
+/// From every state, and on every list of inputs, the machine comes to a request, an answer or an end. So from its first state
+/// it comes to what the goal's tree asks.
+pub fn the_machine_comes_to_an_answer()
+    ensures every { MachineComesToAnAnswer }
+    ensures tree { MachineComesToTheAnswer }
+{}
+
+/// What goals ask is in form, as a machine that runs them has to say of its requests: they ask shared objects that there are,
+/// what they hand out has at most 4,096 cells, and what they call of other modules are atoms and compounds.
+pub fn goals_ask_in_form()
+    ensures code { AsksAreInForm }
+    ensures program { ProgramsAskInForm }
 {}
