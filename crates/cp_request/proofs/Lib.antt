@@ -1,0 +1,7 @@
+mod Terms
+mod Folds
+mod BodyLaws
+mod SeenLaws
+mod StackLaws
+mod FactLaws
+mod PostLaws

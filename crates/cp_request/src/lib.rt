@@ -1,0 +1,33 @@
+//! What goals ask of the shared objects, made from terms of the heap.
+#![tactic(auto)]
+
+mod asking;
+mod bodies;
+mod engines;
+mod error_kind;
+mod fact_goal;
+mod facts;
+mod follows;
+mod looks;
+mod manner;
+mod parts;
+mod post;
+mod refusal;
+mod remote;
+mod seen_goal;
+
+pub use asking::Asking;
+pub use bodies::is_body;
+pub use engines::{post_goal, wait_goal};
+pub use error_kind::ErrorKind;
+pub use fact_goal::FactGoal;
+pub use facts::{fact_asking, pred_asking};
+pub use follows::Follows;
+pub use manner::Manner;
+pub use post::PostGoal;
+pub use refusal::Refusal;
+pub use remote::{RemoteAnswer, RemoteError, RemoteFollows};
+pub use seen_goal::SeenGoal;
+
+#[cfg(test)]
+mod tests;
