@@ -2,10 +2,15 @@
 //! outside, by `bench/run`.
 #![tactic(auto)]
 
+mod append;
+mod export;
+mod lists;
+mod nested;
 mod operators;
 mod pieces;
 mod read;
 mod tokens;
+mod undo;
 mod unify;
 mod words;
 mod work;

@@ -1,6 +1,10 @@
+use crate::append::append;
+use crate::export::export;
+use crate::nested::nested;
 use crate::operators::operators;
 use crate::read::read;
 use crate::tokens::tokens;
+use crate::undo::undo;
 use crate::unify::unify;
 use crate::write::write;
 use std::alloc::{AllocError, Global};
@@ -8,25 +12,38 @@ use std::alloc::{AllocError, Global};
 /// A piece of work.
 #[derive(Clone, Copy)]
 pub(crate) enum Work {
+    Append,
+    Export,
+    Nested,
     Operators,
     Read,
     Tokens,
+    Undo,
     Unify,
     Write,
 }
 
 /// The names of all pieces of work.
-pub(crate) const NAMES: &str = "operators, read, tokens, unify or write";
+pub(crate) const NAMES: &str =
+    "append, export, nested, operators, read, tokens, undo, unify or write";
 
 impl Work {
     /// The piece of work with this name.
     pub(crate) fn named(name: &str) -> Option<Work> {
-        if name == "operators" {
+        if name == "append" {
+            Some(Work::Append)
+        } else if name == "export" {
+            Some(Work::Export)
+        } else if name == "nested" {
+            Some(Work::Nested)
+        } else if name == "operators" {
             Some(Work::Operators)
         } else if name == "read" {
             Some(Work::Read)
         } else if name == "tokens" {
             Some(Work::Tokens)
+        } else if name == "undo" {
+            Some(Work::Undo)
         } else if name == "unify" {
             Some(Work::Unify)
         } else if name == "write" {
@@ -38,9 +55,13 @@ impl Work {
 
     pub(crate) fn name(self) -> &'static str {
         match self {
+            Work::Append => "append",
+            Work::Export => "export",
+            Work::Nested => "nested",
             Work::Operators => "operators",
             Work::Read => "read",
             Work::Tokens => "tokens",
+            Work::Undo => "undo",
             Work::Unify => "unify",
             Work::Write => "write",
         }
@@ -49,9 +70,13 @@ impl Work {
     /// Does the work so many times, and answers a number that depends on all of them.
     pub(crate) fn done(self, alloc: Global, count: u32) -> Result<u64, AllocError> {
         match self {
+            Work::Append => append(alloc, count),
+            Work::Export => export(alloc, count),
+            Work::Nested => nested(alloc, count),
             Work::Operators => operators(alloc, count),
             Work::Read => read(alloc, count),
             Work::Tokens => tokens(alloc, count),
+            Work::Undo => undo(alloc, count),
             Work::Unify => unify(alloc, count),
             Work::Write => write(alloc, count),
         }
