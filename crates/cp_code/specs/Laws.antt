@@ -1,5 +1,5 @@
 -- What holds of trees.
-use Rattle.std.specs.Prelude.{◌≡◌, ◌*◌, ◌<◌, ◌≤◌, Bool, IsTrue, ℕ, suc, List, length, Some}
+use Rattle.std.specs.Prelude.{◌≡◌, ◌*◌, ◌<◌, ◌≤◌, Bool, IsTrue, ℕ, suc, List, [], ◌∷◌, length, Some}
 use Rattle.cp_term.specs.declared.cell.Cell.{Cell}
 use Rattle.cp_term.specs.Substitution.{Substitution}
 use Rattle.cp_code.specs.Code.{Code}
@@ -9,7 +9,8 @@ use Rattle.cp_code.specs.Ends.{Named, Ended}
 use Rattle.cp_code.specs.Units.{with_more, More}
 use Rattle.cp_code.specs.Instrument.{instrument, ArePlain}
 use Rattle.cp_call.specs.declared.item.Next.{Next}
-use Rattle.cp_code.specs.Machine.{State, first_state}
+use Rattle.cp_code.specs.Machine.{State, first_state, meaning, move, ready, told}
+use Rattle.cp_code.specs.Valid.{Ok as StateOk}
 use Rattle.cp_code.specs.Walk.{walk}
 use Rattle.cp_code.specs.Tree.{asks, Item, Left, tree, whole_row}
 
@@ -61,3 +62,18 @@ MachineComesToAnAnswer = (code : Code) (goal : List Cell) (st : State) (inputs :
 -- from its first state it comes to what the goal's tree asks
 abbrev pub MachineComesToTheAnswer : Type 0
 MachineComesToTheAnswer = (code : Code) (goal : List Cell) (inputs : List Input) → (steps : ℕ) × (walk code goal steps (first_state code goal) inputs ≡ Some (asks code goal inputs))
+
+-- The first state stands for the goal's tree, and its side condition holds.
+abbrev pub FirstStateMeansTheTree : Type 0
+FirstStateMeansTheTree = (code : Code) (goal : List Cell) → StateOk (first_state code goal) × ((inputs : List Input) → asks code goal inputs ≡ meaning (tree code goal) (first_state code goal) inputs)
+
+-- A move keeps what a state stands for, and the side condition.
+abbrev pub MovesKeepTheMeaning : Type 0
+MovesKeepTheMeaning = (code : Code) (goal : List Cell) (st : State) → StateOk st
+    → StateOk (move code goal st) × ((inputs : List Input) → meaning (tree code goal) st inputs ≡ meaning (tree code goal) (move code goal st) inputs)
+
+-- A state that is ready asks what it stands for where no input is left, and an input that it takes is the first of those
+-- for which it stands.
+abbrev pub InputsKeepTheMeaning : Type 0
+InputsKeepTheMeaning = (code : Code) (goal : List Cell) (st : State) (n : Next) → ready st ≡ Some n
+    → (meaning (tree code goal) st [] ≡ n) × ((i : Input) → (StateOk st → StateOk (told st i)) × ((inputs : List Input) → meaning (tree code goal) st (i ∷ inputs) ≡ meaning (tree code goal) (told st i) inputs))

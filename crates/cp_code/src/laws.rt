@@ -1,7 +1,7 @@
 // Laws of the definition of resolution, for the crates above.
 ghost use Rattle.cp_code.specs.Candidates.{OthersDoNotUnify, OthersAreLeftOut, NoneFindNothing, OthersAreMovedOver, NoneMovesToAFailure};
 ghost use Rattle.cp_code.specs.Lawful.{AsksAreInForm, ProgramsAskInForm};
-ghost use Rattle.cp_code.specs.Laws.{MachineComesToAnAnswer, MachineComesToTheAnswer, DepthIsEnough, HasIsItsRow, HasIsLeast, TreeIsRow, InstrumentedAsks, EndsAreNamed, MachineAsksAsTheTree, MoreUnitsChangeNothing};
+ghost use Rattle.cp_code.specs.Laws.{MachineComesToAnAnswer, MachineComesToTheAnswer, DepthIsEnough, HasIsItsRow, HasIsLeast, TreeIsRow, InstrumentedAsks, EndsAreNamed, MachineAsksAsTheTree, MoreUnitsChangeNothing, FirstStateMeansTheTree, MovesKeepTheMeaning, InputsKeepTheMeaning};
 
 /// The tree of a list of goals is what the table says of its first goal, with the trees of the other lists of goals: the
 /// depth to which the definition goes down is never met.
@@ -47,6 +47,14 @@ pub fn properties_are_the_least()
     ensures depth { DepthIsEnough }
     ensures row { HasIsItsRow }
     ensures least { HasIsLeast }
+{}
+
+/// What a state of the machine stands for is what is asked next, on each list of inputs that are still to come. The first
+/// state stands for the goal's tree; a move keeps it; and the machine, when it is ready, asks it and takes the next input.
+pub fn the_machine_keeps_its_meaning()
+    ensures first { FirstStateMeansTheTree }
+    ensures moves { MovesKeepTheMeaning }
+    ensures inputs { InputsKeepTheMeaning }
 {}
 
 /// From every state, and on every list of inputs, the machine comes to a request, an answer or an end. So from its first state

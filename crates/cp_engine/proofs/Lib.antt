@@ -1,9 +1,0 @@
-pub mod BodyLaws
-pub mod ListLaws
-pub mod GrowthLaws
-pub mod FrameLaws
-pub mod FreshLaws
-pub mod ClauseLaws
-pub mod EnteringLaws
-pub mod ProgramLaws
-pub mod SeenLaws

@@ -1,7 +1,0 @@
-pub mod Control
-pub mod Lists
-pub mod Shown
-pub mod Stands
-pub mod Entering
-pub mod Programs
-pub mod Starting
