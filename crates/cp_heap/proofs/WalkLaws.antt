@@ -136,3 +136,16 @@ is_term_of cells t e one =
 
 pub as_long : (cells t : List Cell) → cells ≡ canon t → length cells ≡ length t
 as_long cells t e = ap length e ∙ length-canon_from [] t
+
+-- the same without renaming
+pub put_first : (s : State) (old new : List Cell) (stack stack2 : List ℕ) (at end : ℕ) (w : Word) (c : Cell) → new ≡ old ++ c ∷ [] → c ≡ first_cell s.names w → stack2 ≡ stack ++ argument_places w
+    → instance_at s end ≡ instance_at s at → instance_at s end ≡ first_cell s.names w ∷ waiting s (argument_places w) → new ++ waiting s stack2 ≡ old ++ (instance_at s at ++ waiting s stack)
+put_first s old new stack stack2 at end w c pushed cell top same shown =
+    let below : waiting s stack2 ≡ waiting s (argument_places w) ++ waiting s stack = ap (waiting s) top ∙ waiting-append s stack (argument_places w) in
+    (λ i. pushed i ++ below i)
+    ∙ append_assoc old (c ∷ []) (waiting s (argument_places w) ++ waiting s stack)
+    ∙ (λ i. old ++ cell i ∷ (waiting s (argument_places w) ++ waiting s stack))
+    ∙ ap (λ cs. old ++ (cs ++ waiting s stack)) (sym shown ∙ same)
+
+pub all_put : (s : State) (cells : List Cell) (stack : List ℕ) (t : List Cell) → cells ++ waiting s stack ≡ t → stack ≡ [] → cells ≡ t
+all_put s cells stack t e empty = sym (append-nil cells) ∙ ap (λ ats. cells ++ waiting s ats) (sym empty) ∙ e

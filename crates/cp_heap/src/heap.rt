@@ -6,6 +6,7 @@ mod copy;
 mod export;
 mod ground;
 mod import;
+mod instance;
 mod looking;
 mod making;
 mod walk;

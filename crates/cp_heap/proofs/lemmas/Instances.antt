@@ -1,13 +1,18 @@
 -- The bindings of a heap leave instances as they are.
-use Rattle.std.proofs.Common.{◌≡◌, cond, nat_eq, true, false, ℕ, List, [], ◌∷◌, ◌++◌, get_or, refl, sym, ◌∙◌, ap, subst, append_assoc, append-nil}
+use Rattle.std.proofs.Common.{◌≡◌, ◌<◌, ◌≤◌, cond, nat_eq, true, false, ℕ, List, [], ◌∷◌, ◌++◌, length, take, get_or, refl, sym, ◌∙◌, ap, subst, append_assoc, append-nil, arith}
 use Rattle.std.proofs.lemmas.Bool.{eqb-true}
+use Rattle.std.proofs.Math.Seq.{take-length}
 use Rattle.cp_term.specs.declared.cell.Cell.{Cell}
 use Rattle.cp_term.specs.declared.cell.Cell.TheVariants.{Var, Int, Atom, Func}
+use Rattle.cp_term.specs.Numbering.{next_variable}
 use Rattle.cp_term.specs.Substitution.{Binding, Substitution, replace, apply}
 use Rattle.cp_term.proofs.lemmas.SubstitutionLaws.{apply-append, apply-Int, apply-Atom, apply-Func}
 use Rattle.cp_heap.specs.declared.bound.Bound.{Bound}
-use Rattle.cp_heap.specs.State.{State, bindings, substitution, MayBind, IsTrail, IsWellFormed}
+use Rattle.cp_heap.specs.State.{State, term, bindings, substitution, MayBind, IsTrail, HaveVariablesBelow, IsWellFormed, instance_at}
 use Rattle.cp_heap.proofs.TrailLaws.{binding, apply-push, replace-apart, replace-own, unbound}
+use Rattle.cp_heap.proofs.ShapeLaws.{below-at}
+use Rattle.cp_heap.proofs.MoveLaws.{within_of}
+use Rattle.cp_heap.proofs.FreshLaws.{instance_below, uncrossed_before}
 
 -- a binding whose variable and term have the same instance does nothing
 module _ (s : Substitution) (x : Binding) (own : apply s x.term ≡ apply s (Var x.var ∷ [])) where
@@ -53,3 +58,11 @@ module _ (terms : List (List Cell)) where
 -- the instance of an instance is the instance
 pub instance-again : (h : State) → IsWellFormed h → (cells : List Cell) → apply (substitution h) (apply (substitution h) cells) ≡ apply (substitution h) cells
 instance-again h well cells = all_of h.terms h.variables [] h.trail well.trail (λ cs. refl) cells
+
+-- an instance has variables of the heap alone
+pub instance-variables : (h : State) → IsWellFormed h → (at : ℕ) → at < length h.terms → next_variable (instance_at h at) ≤ h.variables
+instance-variables h well at lt =
+    let all : HaveVariablesBelow h.variables (take (length h.terms) h.terms) = subst (HaveVariablesBelow h.variables) (sym (take-length h.terms)) well.written in
+    instance_below h.variables h.terms h.trail
+    (uncrossed_before h.variables h.terms (length h.terms) h.trail (omega arith) all (within_of h.terms h.variables [] h.trail well.trail))
+    (term h at) (below-at h.variables h.terms at well.written lt)

@@ -25,7 +25,7 @@ impl Heap {
     }
 
     /// The cells of a term with all bindings, its variables numbered by first occurrence, however many they are.
-    fn all_cells(&self, at: u32) -> Result<Cells, AllocError>
+    pub(super) fn all_cells(&self, at: u32) -> Result<Cells, AllocError>
         requires { at < length self.now.terms }
         ensures cells { IfOk result (λ cells. cells ≡ canon (instance_at self.now at)) }
         ensures term { IfOk result (λ cells. is_terms 1 cells ≡ true) }
