@@ -34,20 +34,21 @@ fn two(alloc: Global, first: Ref, second: Ref) -> Result<Refs, AllocError>
     Ok(refs)
 }
 
-/// Makes an atom.
-pub(crate) fn atom(alloc: Global, heap: &mut Heap, name: &[u8]) -> Result<Ref, AllocError>
+/// Makes the atom with this name.
+pub fn atom(alloc: Global, heap: &mut Heap, name: &[u8]) -> Result<Ref, AllocError>
     ensures live { IfOk result (λ r. r.at < length heap.new.terms) }
     ensures term { IfOk result (λ r. term heap.new r.at ≡ word name.now) }
     ensures bindings { substitution heap.new ≡ substitution heap.old }
     ensures extends { Extends heap.old heap.new }
     ensures variables { heap.new.variables ≡ heap.old.variables }
+    ensures trail { heap.new.trail ≡ heap.old.trail }
 {
     let name = name_of(alloc, name)?;
     heap.atom(&name)
 }
 
-/// Makes a compound of one argument.
-pub(crate) fn with_one(
+/// Makes a compound of one argument, which stays the term that it is.
+pub fn with_one(
     alloc: Global,
     heap: &mut Heap,
     name: &[u8],
@@ -59,14 +60,15 @@ pub(crate) fn with_one(
     ensures bindings { substitution heap.new ≡ substitution heap.old }
     ensures extends { Extends heap.old heap.new }
     ensures variables { heap.new.variables ≡ heap.old.variables }
+    ensures trail { heap.new.trail ≡ heap.old.trail }
 {
     let name = name_of(alloc, name)?;
     let arguments = one(alloc, argument)?;
     heap.compound(&name, &arguments)
 }
 
-/// Makes a compound of two arguments.
-pub(crate) fn with_two(
+/// Makes a compound of two arguments, which stay the terms that they are.
+pub fn with_two(
     alloc: Global,
     heap: &mut Heap,
     name: &[u8],
@@ -80,6 +82,7 @@ pub(crate) fn with_two(
     ensures bindings { substitution heap.new ≡ substitution heap.old }
     ensures extends { Extends heap.old heap.new }
     ensures variables { heap.new.variables ≡ heap.old.variables }
+    ensures trail { heap.new.trail ≡ heap.old.trail }
 {
     let name = name_of(alloc, name)?;
     let arguments = two(alloc, first, second)?;

@@ -22,7 +22,9 @@ mod type_tests;
 mod unified;
 mod univ;
 
+pub use ball::{context_of, error_ball};
 pub use call::call_builtin;
+pub use compound::{atom, with_one, with_two};
 pub use outcome::Outcome1;
 
 #[cfg(test)]

@@ -1,8 +1,6 @@
 -- When a term is a body, by its parts. It is one for every module or for none.
-use Rattle.std.proofs.Common.{◌≡◌, ℕ, zero, suc, ◌+◌, ◌<◌, true, false, Bool, Some, None, Option, List, [], ◌∷◌, ◌++◌, length, take, drop, slice_index_or, refl, sym, ◌∙◌, ap, subst, arith, length-append}
+use Rattle.std.proofs.Common.{◌≡◌, ℕ, zero, suc, ◌+◌, true, false, Bool, Some, None, Option, List, [], ◌∷◌, ◌++◌, length, take, drop, slice_index_or, refl, sym, ◌∙◌, ap, subst, arith, length-append}
 use Rattle.std.specs.Prelude.{◌&&◌, ◌||◌, nat_le, if◌then◌else◌, codes, is_some, ℤ}
-use Rattle.std.specs.List.{flat_map}
-use Rattle.std.specs.Str.{bytes_eq}
 use Rattle.std.proofs.lemmas.Bool.{false≢true}
 use Rattle.cp_term.specs.declared.cell.Cell.{Cell}
 use Rattle.cp_term.specs.declared.cell.Cell.TheVariants.{Var, Int, Atom, Func}
@@ -12,9 +10,9 @@ use Rattle.cp_goal.specs.Builtins.{is_atom}
 use Rattle.cp_heap.specs.declared.reference.Ref.{Ref}
 use Rattle.cp_heap.specs.State.{State, instance_at}
 use Rattle.cp_heap.specs.Looks.{name_of}
-use Rattle.cp_code.specs.Bodies.{Body, Cut, True, Fail, Both, Either, Choose, CallOf, ThrowOf, Plain, Reads, Read, Arrow, NoArrow, IfThen, two_bodies, three_bodies, within_module, either_body, atom_body, unary_body, binary_body, ternary_body, longer_body, compound_body, arrow_of, cells_of, read_of, unread, body_of, is}
+use Rattle.cp_code.specs.Bodies.{Body, Cut, True, Fail, Both, Either, Choose, CallOf, ThrowOf, Plain, Reads, Read, Arrow, NoArrow, IfThen, two_bodies, three_bodies, within_module, either_body, atom_body, unary_body, binary_body, compound_body, arrow_of, cells_of, read_of, unread, body_of, is}
 use Rattle.cp_request.specs.declared.parts.Parts.TheVariants.{NoGoal, Goal, One, Two}
-use Rattle.cp_request.specs.Shapes.{has_name, IsPlace, HasNoArguments, IsCompound, IsUnary, IsPair}
+use Rattle.cp_request.specs.Shapes.{has_name, HasNoArguments, IsCompound, IsUnary, IsPair}
 use Rattle.cp_request.specs.Parts.{is_body_at, is_junction, IsMadeOf}
 use Rattle.cp_request.proofs.Terms.{atom_alone}
 use Rattle.cp_request.proofs.Folds.{of_one, of_two, length-arguments, cells_of_one}

@@ -1,8 +1,8 @@
 -- What a goal on a fact asks, from what was found on the way.
-use Rattle.std.proofs.Common.{◌≡◌, ℕ, List, [], ◌∷◌, Some, None, Option, refl, sym, ◌∙◌, ap, subst}
+use Rattle.std.proofs.Common.{◌≡◌, ℕ, List, [], Some, None, Option, sym, ◌∙◌, ap, subst}
 use Rattle.std.specs.Prelude.{Result, Ok, Err, unwrap_or}
 use Rattle.cp_term.specs.declared.cell.Cell.{Cell}
-use Rattle.cp_heap.specs.State.{State, instance_at}
+use Rattle.cp_heap.specs.State.{State}
 use Rattle.cp_heap.specs.Looks.{name_of}
 use Rattle.cp_code.specs.Bodies.{Seen}
 use Rattle.cp_code.specs.Code as code

@@ -4,4 +4,4 @@ mod BodyLaws
 mod SeenLaws
 mod StackLaws
 mod FactLaws
-mod PostLaws
+mod ErrorLaws

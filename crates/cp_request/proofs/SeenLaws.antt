@@ -1,21 +1,21 @@
 -- What a goal is without the modules in front of it.
-use Rattle.std.proofs.Common.{◌≡◌, ℕ, zero, suc, ◌+◌, ◌<◌, true, false, Bool, Some, None, Option, List, [], ◌∷◌, ◌++◌, length, take, drop, slice_index_or, refl, sym, ◌∙◌, ap, subst, arith, length-append}
-use Rattle.std.specs.Prelude.{◌&&◌, if◌then◌else◌, codes}
+use Rattle.std.proofs.Common.{◌≡◌, ℕ, zero, suc, ◌<◌, true, false, Bool, List, [], ◌∷◌, ◌++◌, length, take, slice_index_or, refl, sym, ◌∙◌, ap, arith}
+use Rattle.std.specs.Prelude.{if◌then◌else◌, codes}
 use Rattle.std.specs.List.{flat_map}
 use Rattle.std.proofs.lemmas.Bool.{false≢true}
 use Rattle.cp_term.specs.declared.cell.Cell.{Cell}
 use Rattle.cp_term.specs.declared.cell.Cell.TheVariants.{Var, Int, Atom, Func}
-use Rattle.cp_term.specs.Preorder.{arity_of, is_terms}
+use Rattle.cp_term.specs.Preorder.{is_terms}
 use Rattle.cp_goal.specs.Folds.{of_terms}
 use Rattle.cp_goal.specs.Builtins.{is_atom}
 use Rattle.cp_heap.specs.declared.reference.Ref.{Ref}
 use Rattle.cp_heap.specs.State.{State, instance_at}
 use Rattle.cp_heap.specs.Looks.{name_of}
-use Rattle.cp_code.specs.Bodies.{is, Seen, Peeled, as_it_is, seen_in, peeled_pair, peeled_at, peeled_cells, peeled_of, seen_from}
+use Rattle.cp_code.specs.Bodies.{is, Seen, Peeled, as_it_is, seen_in, peeled_pair, peeled_cells, peeled_of, seen_from}
 use Rattle.cp_code.specs.Requests.{has_module}
-use Rattle.cp_request.specs.Shapes.{has_name, IsPlace, HasNoArguments, IsPair, IsQualified}
+use Rattle.cp_request.specs.Shapes.{has_name, HasNoArguments, IsPair, IsQualified}
 use Rattle.cp_request.proofs.Terms.{atom_alone}
-use Rattle.cp_request.proofs.Folds.{of_one, of_two, length-arguments, cells_of_one}
+use Rattle.cp_request.proofs.Folds.{of_one, length-arguments, cells_of_one}
 
 unpeeled : List Cell → Peeled
 unpeeled cells = record { cells = cells; seen = as_it_is cells }

@@ -2,7 +2,7 @@
 use Rattle.std.proofs.Common.{◌≡◌, ℕ, ◌+◌, ◌<◌, true, false, Bool, List, [], ◌∷◌, ◌++◌, length, refl, sym, ◌∙◌, ap, subst, arith}
 use Rattle.std.specs.Prelude.{◌&&◌}
 use Rattle.cp_heap.specs.declared.reference.Ref.{Ref}
-use Rattle.cp_heap.specs.State.{State, instance_at}
+use Rattle.cp_heap.specs.State.{State}
 use Rattle.cp_request.specs.declared.parts.Parts.{Parts}
 use Rattle.cp_request.specs.Parts.{is_body_at, are_bodies, places_of, can_be_body, ArePlaces, cells_at, IsMadeOf}
 

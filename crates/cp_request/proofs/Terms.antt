@@ -1,10 +1,10 @@
 -- Terms that stand one behind another.
-use Rattle.std.proofs.Common.{◌≡◌, ℕ, zero, suc, ◌+◌, ◌-◌, ◌<◌, true, false, ◌&&◌, List, [], ◌∷◌, ◌++◌, length, slice_get, refl, sym, ◌∙◌, ap, subst, arith, length-append, append-nil}
-use Rattle.std.specs.Prelude.{Option, Some, None, unwrap_or}
+use Rattle.std.proofs.Common.{◌≡◌, ℕ, zero, suc, ◌+◌, true, ◌&&◌, List, [], ◌∷◌, ◌++◌, slice_get, refl, sym, ◌∙◌, ap, subst, arith}
+use Rattle.std.specs.Prelude.{Some, unwrap_or}
 use Rattle.std.proofs.lemmas.Bool.{and_parts, false≢true}
 use Rattle.cp_term.specs.declared.cell.Cell.{Cell}
 use Rattle.cp_term.specs.declared.cell.Cell.TheVariants.{Var, Int, Atom, Func}
-use Rattle.cp_term.specs.Preorder.{arity_of, has_arity, terms_after, is_terms, take_terms, drop_terms, split_terms, arguments}
+use Rattle.cp_term.specs.Preorder.{arity_of, has_arity, terms_after, is_terms, take_terms, drop_terms, arguments}
 use Rattle.cp_heap.specs.declared.reference.Ref.{Ref}
 use Rattle.cp_heap.specs.State.{State, instance_at}
 use Rattle.cp_goal.specs.Builtins.{is_atom}

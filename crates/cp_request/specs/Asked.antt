@@ -1,5 +1,5 @@
 -- What is asked, as the definition of requests has it.
-use Rattle.std.specs.Prelude.{ℕ, List}
+use Rattle.std.specs.Prelude.{List}
 use Rattle.cp_term.specs.declared.cell.Cell.{Cell}
 use Rattle.cp_heap.specs.State.{State, instance_at}
 use Rattle.cp_code.specs.Goals as goals

@@ -1,10 +1,9 @@
 -- Steps on the way to what a goal asks, each by what is left of the definition.
-use Rattle.std.specs.Prelude.{◌≡◌, ℕ, Bool, true, false, List, [], ◌∷◌, Option, Some, None, Result, Ok, Err}
+use Rattle.std.specs.Prelude.{◌≡◌, ℕ, List, Option, Some, None, Result, Ok, Err}
 use Rattle.cp_term.specs.declared.cell.Cell.{Cell}
-use Rattle.cp_term.specs.declared.pred_name.PredName.{PredName}
-use Rattle.cp_heap.specs.State.{State, instance_at}
+use Rattle.cp_heap.specs.State.{State}
 use Rattle.cp_heap.specs.Looks.{name_of}
-use Rattle.cp_code.specs.Bodies.{Seen, seen_from}
+use Rattle.cp_code.specs.Bodies.{Seen}
 use Rattle.cp_code.specs.Code as code
 use Rattle.cp_code.specs.Goals as goals
 use Rattle.cp_code.specs.Requests as requests

@@ -1,6 +1,5 @@
 -- Why nothing is asked: the kinds of errors (ISO/IEC 13211-1, 7.12.2).
-use Rattle.std.specs.Prelude.{◌≡◌, ℕ, List, [], ◌∷◌, Result, Ok, Err, codes}
-use Rattle.cp_term.specs.declared.cell.Cell.{Cell}
+use Rattle.std.specs.Prelude.{◌≡◌, [], ◌∷◌, Result, Ok, Err, codes}
 use Rattle.cp_term.specs.declared.cell.Cell.TheVariants.{Int}
 use Rattle.cp_goal.specs.Errors.{instantiation_error, type_error, domain_error, resource_error}
 use Rattle.cp_heap.specs.State.{State, instance_at}

@@ -1,5 +1,5 @@
 -- What follows a reply, as the definition of requests has it.
-use Rattle.std.specs.Prelude.{ℕ, List, codes}
+use Rattle.std.specs.Prelude.{List, codes}
 use Rattle.cp_term.specs.declared.cell.Cell.{Cell}
 use Rattle.cp_term.specs.declared.pred_name.PredName.{PredName}
 use Rattle.cp_goal.specs.Errors.{word, resource_error}

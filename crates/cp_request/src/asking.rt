@@ -29,4 +29,17 @@ impl Asking {
     {
         self.goal.call(&self.copy, after)
     }
+
+    /// The same question.
+    pub fn copy(&self) -> Result<Asking, AllocError>
+        ensures { IfOk result (λ a. a ≡ self.now) }
+    {
+        Ok(Asking {
+            object: self.object,
+            goal: self.goal,
+            copy: self.copy.copy()?,
+            manner: self.manner,
+            context: self.context.clone()?,
+        })
+    }
 }

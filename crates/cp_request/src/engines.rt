@@ -16,7 +16,8 @@ use crate::manner::Manner;
 use crate::post::PostGoal;
 use crate::refusal::Refusal;
 use crate::seen_goal::SeenGoal;
-use cp_heap::{Heap, Look, Ref, Refs};
+use cp_builtin::with_two;
+use cp_heap::{Heap, Look, Ref};
 use cp_term::{Cell, Cells, Name, PredName, Term};
 use std::alloc::{AllocError, Global};
 
@@ -115,8 +116,9 @@ fn is_create(heap: &Heap, at: Ref) -> bool
     }
 }
 
-/// The goal with its own module in front of it, or else with this one.
-fn posted(alloc: Global, heap: &mut Heap, outer: &Name, goal: Ref) -> Result<Ref, AllocError>
+/// The goal with its own module in front of it, as it stands, or else with this one: the term `M:G`. The heap only grows,
+/// and the goal stays the term that it is.
+pub fn posted(alloc: Global, heap: &mut Heap, outer: &Name, goal: Ref) -> Result<Ref, AllocError>
     requires { IsPlace heap.old goal }
     ensures place { IfOk result (λ r. IsPlace heap.new r) }
     ensures posted { IfOk result (λ r. instance_at heap.new r.at ≡ requests.posted outer.now (instance_at heap.old goal.at)) }
@@ -142,11 +144,8 @@ fn within(alloc: Global, heap: &mut Heap, own: &Name, goal: Ref) -> Result<Ref, 
     ensures trail { heap.new.trail ≡ heap.old.trail }
     ensures variables { heap.new.variables ≡ heap.old.variables }
 {
-    let _mark = heap.mark();
-    let colon = name_of(alloc, b":")?;
     let front = heap.atom(own)?;
-    let parts = pair_of_refs(alloc, front, goal)?;
-    heap.compound(&colon, &parts)
+    with_two(alloc, heap, b":", front, goal)
 }
 
 fn name_of(alloc: Global, text: &[u8]) -> Result<Name, AllocError>
@@ -156,15 +155,6 @@ fn name_of(alloc: Global, text: &[u8]) -> Result<Name, AllocError>
         Ok(name) => Ok(name),
         Err(_) => Err(AllocError),
     }
-}
-
-fn pair_of_refs(alloc: Global, first: Ref, second: Ref) -> Result<Refs, AllocError>
-    ensures { IfOk result (λ refs. refs ≡ first ∷ second ∷ []) }
-{
-    let mut refs = Refs::new(alloc);
-    refs.push(first)?;
-    refs.push(second)?;
-    Ok(refs)
 }
 
 /// What `eng_wait` asks: whether the goal with this number has ended.

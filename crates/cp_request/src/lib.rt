@@ -8,6 +8,7 @@ mod error_kind;
 mod fact_goal;
 mod facts;
 mod follows;
+mod kinds;
 mod looks;
 mod manner;
 mod parts;
@@ -18,11 +19,16 @@ mod seen_goal;
 
 pub use asking::Asking;
 pub use bodies::is_body;
-pub use engines::{post_goal, wait_goal};
+pub use engines::{post_goal, posted, wait_goal};
 pub use error_kind::ErrorKind;
 pub use fact_goal::FactGoal;
 pub use facts::{fact_asking, pred_asking};
 pub use follows::Follows;
+pub use kinds::{
+    domain_error_of, existence_error, full_error, instantiation_error_of, pred_indicator,
+    resource_error_of, system_error, type_error_of,
+};
+pub use looks::{has_name, is_atom, is_unbound, qualified};
 pub use manner::Manner;
 pub use post::PostGoal;
 pub use refusal::Refusal;

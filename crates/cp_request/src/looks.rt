@@ -9,7 +9,7 @@ ghost use Rattle.cp_request.specs.Shapes.{has_name, IsPlace, HasNoArguments, IsU
 use cp_heap::{Heap, Look, Ref};
 
 /// Whether the term is an atom or a compound with this name.
-pub(crate) fn has_name(heap: &Heap, at: Ref, word: &[u8]) -> bool
+pub fn has_name(heap: &Heap, at: Ref, word: &[u8]) -> bool
     requires { IsPlace heap.now at }
     ensures { result ≡ has_name word.now (name_of (instance_at heap.now at.at)) }
 {
@@ -20,7 +20,7 @@ pub(crate) fn has_name(heap: &Heap, at: Ref, word: &[u8]) -> bool
 }
 
 /// Whether the term is an atom.
-pub(crate) fn is_atom(heap: &Heap, at: Ref) -> bool
+pub fn is_atom(heap: &Heap, at: Ref) -> bool
     requires { IsPlace heap.now at }
     ensures { result ≡ is_atom (instance_at heap.now at.at) }
 {
@@ -33,7 +33,7 @@ pub(crate) fn is_atom(heap: &Heap, at: Ref) -> bool
 }
 
 /// Whether the term is an unbound variable.
-pub(crate) fn is_unbound(heap: &Heap, at: Ref) -> bool
+pub fn is_unbound(heap: &Heap, at: Ref) -> bool
     requires { IsPlace heap.now at }
     ensures { result ≡ is_unbound (instance_at heap.now at.at) }
 {
@@ -82,7 +82,7 @@ pub(crate) fn pair_of(heap: &Heap, at: Ref) -> Option<(Ref, Ref)>
 }
 
 /// The module and the goal of a term `M:G` whose M is an atom.
-pub(crate) fn qualified(heap: &Heap, at: Ref) -> Option<(Ref, Ref)>
+pub fn qualified(heap: &Heap, at: Ref) -> Option<(Ref, Ref)>
     requires { IsPlace heap.now at }
     ensures pair { MatchOption result (has_module (instance_at heap.now at.at) ≡ false) (λ p. IsQualified heap.now at p) }
     ensures term { is_terms 1 (instance_at heap.now at.at) ≡ true }

@@ -1,4 +1,6 @@
 use super::*;
+use cp_builtin::error_ball;
+use cp_call::FullBy;
 use cp_code::{
     Assertions, Clauses, GoalMarks, Imports, Names, OpTables, Peers, PredInfo, PredKind, PredNames,
     Preds, Program, Types,
@@ -13,8 +15,8 @@ use std::test::Fail;
 enum Piece {
     Variable(u32),
     Integer(i64),
-    Atom(u8),
-    Functor(u8, u16),
+    Atom(&'static [u8]),
+    Functor(&'static [u8], u16),
 }
 
 use Piece::{Atom, Functor, Integer, Variable};
@@ -23,8 +25,8 @@ fn cell(alloc: Global, piece: Piece) -> Result<Cell, Fail> {
     match piece {
         Piece::Variable(variable) => Ok(Cell::Var(variable)),
         Piece::Integer(integer) => Ok(Cell::Int(integer)),
-        Piece::Atom(letter) => Ok(Cell::Atom(Name::of(alloc, &[letter])?)),
-        Piece::Functor(letter, arity) => Ok(Cell::Func(Name::of(alloc, &[letter])?, arity)),
+        Piece::Atom(text) => Ok(Cell::Atom(Name::of(alloc, text)?)),
+        Piece::Functor(text, arity) => Ok(Cell::Func(Name::of(alloc, text)?, arity)),
     }
 }
 
@@ -45,15 +47,15 @@ fn is_body_of(alloc: Global, term: &Term) -> Result<bool, AllocError> {
 #[test]
 fn terms_that_are_bodies(rt: HostRuntime) -> Result<(), Fail> {
     let alloc = rt.alloc();
-    let p = Atom(b'p');
+    let p = Atom(b"p");
     let terms = [
-        (term(alloc, &[Functor(b',', 2), p, Variable(0)])?, true),
-        (term(alloc, &[Functor(b',', 2), p, Integer(1)])?, false),
-        (term(alloc, &[Functor(b';', 2), Integer(1), p])?, false),
-        (term(alloc, &[Functor(b':', 2), p, p])?, true),
-        (term(alloc, &[Functor(b':', 2), p, Integer(1)])?, false),
-        (term(alloc, &[Functor(b':', 2), Variable(0), p])?, false),
-        (term(alloc, &[Functor(b'q', 2), Integer(1), p])?, true),
+        (term(alloc, &[Functor(b",", 2), p, Variable(0)])?, true),
+        (term(alloc, &[Functor(b",", 2), p, Integer(1)])?, false),
+        (term(alloc, &[Functor(b";", 2), Integer(1), p])?, false),
+        (term(alloc, &[Functor(b":", 2), p, p])?, true),
+        (term(alloc, &[Functor(b":", 2), p, Integer(1)])?, false),
+        (term(alloc, &[Functor(b":", 2), Variable(0), p])?, false),
+        (term(alloc, &[Functor(b"q", 2), Integer(1), p])?, true),
     ];
     for (term, wanted) in &terms {
         assert_eq!(rt; is_body_of(alloc, term)?, *wanted);
@@ -105,7 +107,7 @@ fn program(alloc: Global, kind: PredKind) -> Result<Program, Fail> {
 fn object_asked(alloc: Global, kind: PredKind, goal: FactGoal) -> Result<Option<u32>, Fail> {
     let program = program(alloc, kind)?;
     let mut heap = Heap::new(alloc);
-    let fact = heap.import(&term(alloc, &[Functor(b'p', 1), Variable(0)])?)?;
+    let fact = heap.import(&term(alloc, &[Functor(b"p", 1), Variable(0)])?)?;
     let m = name(alloc, b"m")?;
     match fact_asking(&program, &heap, goal, &m, fact, &p_of_m(alloc)?) {
         Ok(asking) => Ok(Some(asking.object)),
@@ -152,12 +154,21 @@ fn cells_posted(alloc: Global, goal: &Term) -> Result<Option<u32>, Fail> {
 #[test]
 fn a_goal_is_posted_with_one_module(rt: HostRuntime) -> Result<(), Fail> {
     let alloc = rt.alloc();
-    let plain = term(alloc, &[Functor(b'p', 1), Variable(0)])?;
+    let plain = term(alloc, &[Functor(b"p", 1), Variable(0)])?;
     assert_eq!(rt; cells_posted(alloc, &plain)?, Some(4));
-    let own = term(alloc, &[Functor(b':', 2), Atom(b'n'), Atom(b'p')])?;
+    let own = term(alloc, &[Functor(b":", 2), Atom(b"n"), Atom(b"p")])?;
     assert_eq!(rt; cells_posted(alloc, &own)?, Some(3));
     assert_eq!(rt; cells_posted(alloc, &term(alloc, &[Integer(1)])?)?, None);
     Ok(())
+}
+
+/// Whether a fact is looked for and stays.
+fn is_current(asking: &Asking) -> Result<bool, Fail> {
+    Ok(
+        asking
+            .call(None)?
+            .equal(&FactGoal::Current.call(&asking.copy, None)?),
+    )
 }
 
 /// Whether a goal's end is asked for, where this is its number.
@@ -165,11 +176,7 @@ fn is_waited_for(alloc: Global, id: i64) -> Result<bool, Fail> {
     let mut heap = Heap::new(alloc);
     let at = heap.integer(id)?;
     match wait_goal(alloc, &heap, at, &p_of_m(alloc)?) {
-        Ok(asking) => Ok(
-            asking
-                .call(None)?
-                .equal(&FactGoal::Current.call(&asking.copy, None)?),
-        ),
+        Ok(asking) => is_current(&asking.copy()?),
         Err(Refusal::Raised(_)) => Ok(false),
         Err(Refusal::NoMemory) => Err("memory is wanting".into()),
     }
@@ -180,5 +187,61 @@ fn goals_are_numbered_from_one(rt: HostRuntime) -> Result<(), Fail> {
     let alloc = rt.alloc();
     assert_eq!(rt; is_waited_for(alloc, 1)?, true);
     assert_eq!(rt; is_waited_for(alloc, 0)?, false);
+    Ok(())
+}
+
+/// The ball of `type_error(callable, 1)` in the context m:p/1.
+fn ball_of_one(alloc: Global) -> Result<Term, Fail> {
+    let mut heap = Heap::new(alloc);
+    let one = heap.integer(1)?;
+    let kind = ErrorKind::NotCallable(one).put(alloc, &mut heap)?;
+    Ok(error_ball(alloc, &mut heap, &p_of_m(alloc)?, kind)?)
+}
+
+#[test]
+fn a_ball_tells_the_kind_and_the_predicate(rt: HostRuntime) -> Result<(), Fail> {
+    let alloc = rt.alloc();
+    let wanted = [
+        Functor(b"error", 2),
+        Functor(b"type_error", 2),
+        Atom(b"callable"),
+        Integer(1),
+        Functor(b":", 2),
+        Atom(b"m"),
+        Functor(b"/", 2),
+        Atom(b"p"),
+        Integer(1),
+    ];
+    assert!(rt; ball_of_one(alloc)? == term(alloc, &wanted)?);
+    Ok(())
+}
+
+/// How many cells the kind of an error of a remote call of m:p/1 has.
+fn remote_cells(alloc: Global, error: RemoteError) -> Result<u32, Fail> {
+    let mut heap = Heap::new(alloc);
+    let kind = error.put(alloc, &mut heap, &p_of_m(alloc)?)?;
+    Ok(heap.export(kind)?.size())
+}
+
+/// How many cells the kind of an error has, for a limit that a call would pass.
+fn full_cells(alloc: Global, by: FullBy) -> Result<u32, Fail> {
+    let mut heap = Heap::new(alloc);
+    let kind = full_error(alloc, &mut heap, by)?;
+    Ok(heap.export(kind)?.size())
+}
+
+#[test]
+fn kinds_of_errors_by_their_cells(rt: HostRuntime) -> Result<(), Fail> {
+    let alloc = rt.alloc();
+    let rows = [
+        (RemoteError::Steps, 2),
+        (RemoteError::NoProcedure, 7),
+        (RemoteError::Link, 2),
+        (RemoteError::NoActiveModule, 3),
+    ];
+    for (error, wanted) in rows {
+        assert_eq!(rt; remote_cells(alloc, error)?, wanted);
+    }
+    assert_eq!(rt; full_cells(alloc, FullBy::Posts)?, 2);
     Ok(())
 }

@@ -1,4 +1,4 @@
-use Rattle.std.proofs.Common.{◌≡◌, ℕ, List, length}
+use Rattle.std.proofs.Common.{◌≡◌, ℕ, List}
 use Rattle.cp_request.specs.Parts.{is_body_at, are_bodies, ArePlaces, cells_at}
 use Rattle.cp_request.proofs.bodies.is_body.Given as goal
 

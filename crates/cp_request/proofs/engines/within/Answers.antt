@@ -1,8 +1,9 @@
-use Rattle.std.proofs.Common.{sym, ◌∙◌}
-use Rattle.cp_request.proofs.PostLaws.{term-kept, within-shown}
+use Rattle.std.specs.Prelude.{codes}
+use Rattle.cp_request.proofs.ErrorLaws.{culprit-told}
 use Rattle.cp_request.proofs.engines.within.Goals as goal
 
 pub returns-clause-within : goal.returns-clause-within
 returns-clause-within c =
-    within-shown c.args.heap.now c.atom.new.self c.compound.new.self c.in_ok-colon.colon c.args.own.now c.in_ok-front.front c.args.goal c.in_ok-parts.parts c.compound.result c.in_ok-colon.ensures c.in_ok-parts.ensures c.in_ok-front.ensures.term
-    (term-kept c.args.heap.now c.atom.new.self c.args.goal.at c.atom.ensures.extends c.requires) (c.compound.ensures.bindings ∙ c.atom.ensures.bindings) c.compound.ensures.term
+    let front = c.in_ok-front.ensures in
+    let made = c.with_two.ensures in
+    culprit-told c.with_two.new.heap c.with_two.result c.args.heap.now c.atom.new.self (codes ":") c.args.own.now c.in_ok-front.front.at front.term made.bindings c.args.goal.at front.extends front.bindings c.requires made.term
