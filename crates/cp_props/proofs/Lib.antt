@@ -1,0 +1,9 @@
+mod Clausal
+mod Goals
+mod Matching
+mod Meeting
+mod Naming
+mod Scanning
+mod Searching
+mod Seen
+mod Stacks
