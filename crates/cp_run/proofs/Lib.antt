@@ -1,0 +1,9 @@
+pub mod ListLaws
+pub mod GrowthLaws
+pub mod FrameLaws
+pub mod FreshLaws
+pub mod ClauseLaws
+pub mod EnteringLaws
+pub mod ProgramLaws
+pub mod StartLaws
+pub mod GainLaws

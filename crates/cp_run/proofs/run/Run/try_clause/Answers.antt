@@ -1,0 +1,20 @@
+use Rattle.std.proofs.Common.{List, sym, ◌∙◌, ap, subst}
+use Rattle.cp_term.specs.declared.cell.Cell.{Cell}
+use Rattle.cp_heap.specs.State.{State}
+use Rattle.cp_code.specs.Clauses.{body_term}
+use Rattle.cp_run.specs.Entering.{HasBody}
+use Rattle.cp_run.proofs.EnteringLaws.{body-good, entered-is}
+use Rattle.cp_run.proofs.run.Run.try_clause.Goals as goal
+
+pub enter_clause-requires-clause-body : goal.enter_clause-requires-clause-body
+enter_clause-requires-clause-body c =
+    let P : List (List Cell) → Type 0 = λ ts. HasBody ts c.args.clause.now.module c.in_ok-parts.parts.body in
+    subst P (sym (ap (λ (h : State). h.terms) c.in_ok-unified.ensures.kept))
+    (body-good c.put_clause.new.self.heap.terms c.args.self.now.heap.variables c.args.clause.now.module c.in_ok-parts.parts.body (body_term c.args.clause.now.whole) c.in_ok-parts.ensures.clause.body c.requires.body c.in_ok-parts.ensures.clause.body_there)
+
+pub returns-then-unified-clause-moved : goal.returns-then-unified-clause-moved
+returns-then-unified-clause-moved c code =
+    c.in_ok-enter_clause.ensures.entered code
+    ∙ entered-is code c.args.self.now c.put_clause.new.self c.unify.new.self c.moment-moment.result c.args.clause.now c.in_ok-parts.parts c.in_ok-unified.unified c.args.pred c.args.from c.args.goal.at c.args.rest c.args.level
+    c.in_ok-parts.ensures.clause c.in_ok-parts.ensures.extended c.in_ok-unified.ensures.extended c.in_ok-unified.ensures.kept c.in_ok-unified.ensures.unified c.if-unified.true
+    c.moment-moment.ensures.now c.moment-moment.ensures.whole c.requires.goal c.requires.rest c.requires.body
