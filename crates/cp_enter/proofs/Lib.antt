@@ -1,0 +1,3 @@
+pub mod ExtendLaws
+pub mod EnterLaws
+pub mod CallLaws
