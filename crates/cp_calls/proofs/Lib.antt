@@ -1,0 +1,4 @@
+pub mod GoalLaws
+pub mod SeenLaws
+pub mod CheckLaws
+pub mod RemoteLaws

@@ -1,0 +1,15 @@
+//! Calls of predicates, and their exits.
+#![tactic(auto)]
+
+mod arguments;
+mod calling;
+mod check_ball;
+mod exits;
+mod giving;
+mod qualifying;
+mod remote;
+mod rules;
+
+pub use calling::run_pred;
+pub use exits::run_exit;
+pub use giving::give;
