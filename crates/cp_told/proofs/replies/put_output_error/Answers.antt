@@ -1,0 +1,5 @@
+use Rattle.cp_run.proofs.GainLaws.{gained-is}
+use Rattle.cp_told.proofs.replies.put_output_error.Goals as goal
+
+pub returns-clause-gained : goal.returns-clause-gained
+returns-clause-gained c = gained-is c.args.run.now c.system_error.new.heap c.requires c.in_ok-kind.ensures.gains
