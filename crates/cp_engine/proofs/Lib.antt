@@ -1,0 +1,5 @@
+pub mod DueLaws
+pub mod AnswerLaws
+pub mod MoveLaws
+pub mod WalkLaws
+pub mod StartedLaws
