@@ -31,9 +31,9 @@ use Rattle.cp_code.specs.Code.{Code, Clause, Pred, Kind, Rules, Shared, Remote, 
 use Rattle.cp_code.specs.Goals.{FactGoal, Current, Builtin, OnTerms, Property, Write, NewLine, OnFacts, Post, Wait, builtin_goal, pred_at, seen_pred}
 use Rattle.cp_code.specs.Lawful.{NamesObject, NameObjects, IsWithin, AreWithin, AsksAreInForm, ProgramsAskInForm}
 use Rattle.cp_code.specs.Programs.{kind_of, pred_of, code_of, objects_of, objects_of-lists}
-use Rattle.cp_code.specs.Requests.{needs_concurrent, Asking, Follows, Again, Facts, Fact, Number, Rest, Nothing, Raises, follows, handed_out, functor_of, full_name, asking_with, asking_of_kind, asking_of_pred, asking_of_functor, existence_error, system_error, fact_asking, pred_asking, is_create, posted, post_asking, post_of_body, post_goal, wait_goal, answers_of, RemoteFollows, Fails, Throws, Breaks, is_unbound}
+use Rattle.cp_code.specs.Requests.{needs_concurrent, Asking, Follows, Again, Facts, Fact, Number, Rest, Nothing, Raises, follows, handed_out, handed_over, functor_of, fact_functor, full_name, asking_with, asking_of_kind, asking_of_pred, asking_of_functor, existence_error, system_error, fact_asking, pred_asking, is_create, posted, post_asking, post_of_body, post_goal, wait_goal, answers_of, RemoteFollows, Fails, Throws, Breaks, is_unbound}
 use Rattle.cp_code.specs.Tree as trees
-use Rattle.cp_code.specs.Tree.{Item, Goal, AskFrom, CutNow, Leave, Copy, Exit, Demands, Renamed, End, Done, CutTo, Throw, Steps, Waiting, Left, Run, Ends, Tree, in_turn, cut_at, opened, cut_behind, charge_of, charge, read_of, read, with_copies, throw_copy, throw_if, extended, enter_body, enter_goal, enter_seen, enter, rest_if, body_before, clause_if, clauses, behind, demand_if, exit_if, call_rules, rules_of_kind, call_renamed, facts_if, fact_if, followed, asked, ask, ask_or_raise, wrote, write, behind_answers, each_answer, answered, call_remote, is_among, recover_if, caught, apart, variables_in, collected, copied, ended, qualified, call_kind, first_of, piece_of, builtin_row, called_row, named_row, functor_row, plain_row, body_row, goal_context, context_of_functor, answer, without_module, row, nothing, whole_row, tree_to, tree, next_of}
+use Rattle.cp_code.specs.Tree.{Item, Goal, AskFrom, CutNow, Leave, Copy, Exit, Demands, Renamed, Done, CutTo, Throw, Steps, Waiting, Left, Run, Ends, Tree, in_turn, cut_at, opened, cut_behind, charge_of, read_of, read, with_copies, throw_copy, throw_if, extended, enter_body, enter_goal, enter, rest_if, body_before, clause_if, clauses, behind, demand_if, exit_if, call_rules, rules_of_kind, call_renamed, facts_if, fact_if, followed, asked, ask_or_raise, wrote, write, behind_answers, each_answer, answered, call_remote, is_among, recover_if, caught, apart, variables_in, collected, copied, ended, qualified, call_kind, first_of, piece_of, builtin_row, called_row, named_row, plain_row, body_row, goal_context, context_of_functor, answer, without_module, row, nothing, whole_row, tree_to, tree, next_of}
 
 -- ---- sizes
 
@@ -118,13 +118,13 @@ module _ (objects : ℕ) (lists : 2 ≤ objects) where
   asking_fits g object ctx fact (Err kind) lt c = tt
 
   plain_fits : (b : Bool) (g : FactGoal) (object : ℕ) (ctx : List Cell) (p : PredName) (fact : Seen) → object < objects → Short ctx
-      → ResultFits (cond b (Err (domain_error (codes "concurrent") (full_name p))) (asking_with g object ctx fact.goal (handed_out fact.goal)))
+      → ResultFits (cond b (Err (domain_error (codes "concurrent") (full_name p))) (asking_with g object ctx fact.goal (handed_over g fact.goal)))
   plain_fits true g object ctx p fact lt c = tt
-  plain_fits false g object ctx p fact lt c = asking_fits g object ctx fact.goal (handed_out fact.goal) lt c
+  plain_fits false g object ctx p fact lt c = asking_fits g object ctx fact.goal (handed_over g fact.goal) lt c
 
   kind_asking : (g : FactGoal) (fact : Seen) (f : List ℕ × ℕ) (p : PredName) (k : Kind) (ctx : List Cell) → IsWithin objects k → Short ctx → ResultFits (asking_of_kind g fact f p k ctx)
   kind_asking g fact f p (Rules cs rs) ctx w c = tt
-  kind_asking g fact f p (Shared object true) ctx w c = asking_fits g object ctx fact.goal (handed_out fact.goal) w c
+  kind_asking g fact f p (Shared object true) ctx w c = asking_fits g object ctx fact.goal (handed_over g fact.goal) w c
   kind_asking g fact f p (Shared object false) ctx w c = plain_fits (needs_concurrent g) g object ctx p fact w c
   kind_asking g fact f p Remote ctx w c = tt
   kind_asking g fact f p (Wrapped cs n) ctx w c = tt
@@ -416,7 +416,7 @@ module _ (objects : ℕ) (lists : 2 ≤ objects) where
       builtin_ends seer NewLine args ctx rest s next level left c h = write_ends (codes "\n") ctx rest s next level left c h
       builtin_ends seer (OnFacts f) args ctx rest s next level left c h =
           ask_ends (fact_asking code f (seen_from seer (first_of args)) ctx) ctx rest s next level left
-          (functor_fits code f (seen_from seer (first_of args)) (functor_of ((seen_from seer (first_of args)).goal)) ctx within c) c h
+          (functor_fits code f (seen_from seer (first_of args)) (fact_functor ((seen_from seer (first_of args)).goal)) ctx within c) c h
       builtin_ends seer Post args ctx rest s next level left c h = ask_ends (post_goal seer args ctx) ctx rest s next level left (post_fits seer args ctx c) c h
       builtin_ends seer Wait args ctx rest s next level left c h = ask_ends (wait_goal args ctx) ctx rest s next level left (wait_fits args ctx c) c h
 

@@ -19,7 +19,7 @@ use Rattle.cp_code.specs.Properties.{has}
 use Rattle.cp_code.specs.Checks.{Check, broken_call, held, broken_exit}
 use Rattle.cp_code.specs.Code.{Code, Clause, Pred, Kind, Rules, Shared, Remote, Wrapped}
 use Rattle.cp_code.specs.Goals.{Builtin, OnTerms, Property, Write, NewLine, OnFacts, Post, Wait, builtin_goal, seen_pred}
-use Rattle.cp_code.specs.Requests.{Asking, Follows, Again, Facts, Fact, Number, Rest, Nothing, Raises, follows, handed_out, functor_of, full_name, fact_asking, pred_asking, post_goal, wait_goal, answers_of, RemoteFollows, is_unbound}
+use Rattle.cp_code.specs.Requests.{Asking, Follows, Again, Facts, Fact, Number, Rest, Nothing, Raises, follows, handed_out, functor_of, full_name, fact_asking, pred_asking, post_goal, wait_goal, RemoteFollows, is_unbound}
 use Rattle.cp_code.specs.Requests as after_answers
 use Rattle.cp_code.specs.Tree.{Item, Goal, AskFrom, CutNow, Leave, Copy, Exit, Demands, Renamed, extended, behind, rules_of_kind, is_among, apart, variables_in, body_before, qualified, piece_of, first_of, without_module}
 use Rattle.cp_code.specs.Ends.{Named}

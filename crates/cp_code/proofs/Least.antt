@@ -5,7 +5,7 @@ use Rattle.std.specs.Str.{bytes_eq}
 use Rattle.std.proofs.lemmas.Bool.{cases_lt}
 use Rattle.std.proofs.lemmas.Slice.Eq.{bytes_eq-Decides}
 use Rattle.cp_term.specs.declared.cell.Cell.{Cell}
-use Rattle.cp_code.specs.Properties.{TypeRow, row_named, Test, of_language, has_row, test_by, has_within, has}
+use Rattle.cp_code.specs.Properties.{TypeRow, row_named, Test, without_types, has_row, test_by, has_within, has}
 use Rattle.cp_code.specs.Laws.{DepthIsEnough, HasIsItsRow, HasIsLeast}
 use Rattle.std.proofs.Math.Nat.{mul-le-mul_left}
 use Rattle.cp_code.proofs.Near.{Near, near_length, test_on}
@@ -20,7 +20,7 @@ both_ways false false f g = refl
 within_more : (types : List TypeRow) (n : ℕ) (name : List ℕ) (t : List Cell) → has_within types n name t ≡ true → has_within types (suc n) name t ≡ true
 within_more types zero name t p = cc
 within_more types (suc n) name t p =
-    test_on t (has_within types n) (has_within types (suc n)) (λ u s near q. within_more types n u s q) types (of_language name t) name p
+    test_on t (has_within types n) (has_within types (suc n)) (λ u s near q. within_more types n u s q) types (without_types name t) name p
 
 within_most : (types : List TypeRow) (k n : ℕ) (name : List ℕ) (t : List Cell) → has_within types n name t ≡ true → has_within types (k + n) name t ≡ true
 within_most types zero n name t p = let e : 0 + n ≡ n = omega arith in subst (λ (m : ℕ). has_within types m name t ≡ true) (sym e) p
@@ -102,7 +102,7 @@ module _ (types : List TypeRow) where
       still_named (count_same (λ u. has_within types (suc n) u t) (λ u. has_within types (suc (suc n)) u t) (λ u q. within_more types (suc n) u t q) types le name)
     where
       still_named : (row_named name types ≡ None) ⊎ (has_within types (suc (suc n)) name t ≡ true → has_within types (suc n) name t ≡ true) → has_within types (suc n) name t ≡ true
-      still_named (inl e) = by_language (has_within types (suc n)) (has_within types n) (of_language name t) name t e p
+      still_named (inl e) = by_language (has_within types (suc n)) (has_within types n) (without_types name t) name t e p
       still_named (inr f) = f p
 
   module _ (size : ℕ) (from : ℕ) (shorter : (s : List Cell) → length s < size → IsStillFrom s from) (t : List Cell) (e : length t ≡ size) where
@@ -113,7 +113,7 @@ module _ (types : List TypeRow) where
 
     -- what is still stays so
     still_on : (n : ℕ) → from ≤ n → IsStill t n → IsStill t (suc n)
-    still_on n le h name p = test_on t (has_within types (suc n)) (has_within types n) (still_near n le h) types (of_language name t) name p
+    still_on n le h name p = test_on t (has_within types (suc n)) (has_within types n) (still_near n le h) types (without_types name t) name p
 
     still_after : (k n : ℕ) → from ≤ n → IsStill t n → IsStill t (k + n)
     still_after zero n le h = let z : 0 + n ≡ n = omega arith in subst (λ (m : ℕ). IsStill t m) (sym z) h
@@ -188,12 +188,12 @@ pub has_is_its_row : HasIsItsRow
 has_is_its_row types name t =
     sym (depth_is_enough types name t (suc (suc (length types) * suc (length t))) (omega arith))
     ∙ both_ways _ _
-    (test_on t (has_within types (suc (length types) * suc (length t))) (has types) (λ u s near q. sym (as_deep types t s near u) ∙ q) types (of_language name t) name)
-    (test_on t (has types) (has_within types (suc (length types) * suc (length t))) (λ u s near q. as_deep types t s near u ∙ q) types (of_language name t) name)
+    (test_on t (has_within types (suc (length types) * suc (length t))) (has types) (λ u s near q. sym (as_deep types t s near u) ∙ q) types (without_types name t) name)
+    (test_on t (has types) (has_within types (suc (length types) * suc (length t))) (λ u s near q. as_deep types t s near u ∙ q) types (without_types name t) name)
 
 pub has_is_least : HasIsLeast
 has_is_least types test closed name t p = least (suc (length types) * suc (length t)) name t p
   where
     least : (n : ℕ) (name : List ℕ) (t : List Cell) → has_within types n name t ≡ true → test name t ≡ true
     least zero name t p = cc
-    least (suc n) name t p = closed name t (test_on t (has_within types n) test (λ u s near q. least n u s q) types (of_language name t) name p)
+    least (suc n) name t p = closed name t (test_on t (has_within types n) test (λ u s near q. least n u s q) types (without_types name t) name p)

@@ -78,7 +78,7 @@ one_unit_is_not_enough : asks (code_of small 1) main [] ≡ request.End how.Step
 unfolding body_of fresh_body seen_from builtin_goal tree holds broken_call held broken_exit
 one_unit_is_not_enough = refl
 
--- :- calls p(X) : atm(X).   The other assertions are not tested.
+-- :- calls p(X) : atm(X).
 abbrev on_p : Assertion
 on_p = record { pred = named "m" "p" 1; number = 1; kind = kind.Calls; status = status.Check; before = prop.Of (codes "atm") 0; after = prop.Always; line = 1 }
 
@@ -89,6 +89,37 @@ a_call_breaks_its_demand : asks (code_of (asserted (on_p ∷ [])) 2) main [] ≡
 unfolding body_of fresh_body seen_from builtin_goal tree holds broken_call held broken_exit
 a_call_breaks_its_demand = refl
 
+-- the unit of the call is charged before its demand is tested
+a_call_without_a_unit_breaks_no_demand : asks (code_of (asserted (on_p ∷ [])) 1) main [] ≡ request.End how.Steps
+unfolding body_of fresh_body seen_from builtin_goal tree holds broken_call held broken_exit
+a_call_without_a_unit_breaks_no_demand = refl
+
+-- :- pred p(X) : atm(X).
+a_call_breaks_its_precondition : asks (code_of (asserted (record on_p { kind = kind.Pred } ∷ [])) 2) main [] ≡ request.End (how.Ball (check_ball (codes "calls") (named "m" "p" 1) 1))
+unfolding body_of fresh_body seen_from builtin_goal tree holds broken_call held broken_exit
+a_call_breaks_its_precondition = refl
+
+-- with `:- pred p(X) : int(X).` beside it one of the two is met
+a_precondition_of_two_is_met :
+    asks (code_of (asserted (record on_p { kind = kind.Pred } ∷ record on_p { kind = kind.Pred; number = 2; before = prop.Of (codes "int") 0 } ∷ [])) 2) main [] ≡ request.Answer main
+unfolding body_of fresh_body seen_from builtin_goal tree holds broken_call held broken_exit
+a_precondition_of_two_is_met = refl
+
+-- :- calls p(X) : int(X).   :- calls p(X) : var(X).   :- calls p(X) : atm(X).   The last two are broken.
+the_least_of_two_broken_demands_is_thrown :
+    asks (code_of (asserted (record on_p { before = prop.Of (codes "int") 0 } ∷ record on_p { number = 2; before = prop.Of (codes "var") 0 } ∷ record on_p { number = 3 } ∷ [])) 2) main []
+    ≡ request.End (how.Ball (check_ball (codes "calls") (named "m" "p" 1) 2))
+unfolding body_of fresh_body seen_from builtin_goal tree holds broken_call held broken_exit
+the_least_of_two_broken_demands_is_thrown = refl
+
+-- :- success p(X) => atm(X).
+an_exit_breaks_its_promise :
+    asks (code_of (asserted (record on_p { kind = kind.Success; before = prop.Always; after = prop.Of (codes "atm") 0 } ∷ [])) 2) main []
+    ≡ request.End (how.Ball (check_ball (codes "success") (named "m" "p" 1) 1))
+unfolding body_of fresh_body seen_from builtin_goal tree holds broken_call held broken_exit
+an_exit_breaks_its_promise = refl
+
+-- one that is trusted, one of the computation, and one of another module's p
 other_assertions_are_not_tested :
     asks (code_of (asserted (record on_p { status = status.Trust } ∷ record on_p { kind = kind.Comp } ∷ record on_p { pred = named "b" "p" 1 } ∷ [])) 2) main []
     ≡ request.Answer main
@@ -163,7 +194,8 @@ number_types =
     ∷ record { name = codes "count"; clauses = rule (with_one (codes "count") x) (of_type "natural" x) ∷ [] }
     ∷ record { name = codes "counts"; clauses = rule (with_one (codes "counts") x) (with_two (codes ":") (word (codes "m")) (with_two (codes "list") x (word (codes "count")))) ∷ [] }
     ∷ record { name = codes "round"; clauses = rule (with_one (codes "round") x) (of_type "turn" x) ∷ [] }
-    ∷ record { name = codes "turn"; clauses = rule (with_one (codes "turn") x) (of_type "round" x) ∷ [] } ∷ []
+    ∷ record { name = codes "turn"; clauses = rule (with_one (codes "turn") x) (of_type "round" x) ∷ [] }
+    ∷ record { name = codes "any"; clauses = rule (with_one (codes "any") x) (of_type "term" x) ∷ [] } ∷ []
 
 abbrev is_of : String → List Cell → Bool
 is_of name t = has number_types (codes name) t
@@ -179,6 +211,15 @@ what_is_no_number_is_none = refl
 a_variable_has_no_type : is_of "natural" x ≡ false
 unfolding seen_from
 a_variable_has_no_type = refl
+
+-- not even where the clauses of the type say nothing against it
+a_variable_has_no_type_at_all : is_of "any" x ≡ false
+unfolding seen_from
+a_variable_has_no_type_at_all = refl
+
+every_other_term_has_this_one : is_of "any" one ≡ true
+unfolding seen_from
+every_other_term_has_this_one = refl
 
 a_type_is_another_one : is_of "count" (next_term zero_term) ≡ true
 unfolding seen_from

@@ -36,8 +36,8 @@ abbrev pub AreWithin : ℕ → List Pred → Type 0
 AreWithin objects [] = Unit {0}
 AreWithin objects (p ∷ preds) = IsWithin objects p.kind × AreWithin objects preds
 
--- What goals ask is in form: they ask shared objects that there are, what they hand out has at most 4,096 cells, and what
--- they call of other modules are atoms and compounds.
+-- What goals ask is in form: they ask shared objects that there are; their answers, the balls that end them and what they
+-- call of other modules have at most 4,096 cells; and what they call there are atoms and compounds.
 abbrev pub AsksAreInForm : Type 0
 AsksAreInForm = (objects : ℕ) → 2 ≤ objects → (code : Code) → AreWithin objects code.preds → (goal : List Cell) (inputs : List Input) → IsInForm objects (asks code goal inputs)
 

@@ -23,7 +23,7 @@ use Rattle.cp_code.specs.Properties.{has}
 use Rattle.cp_code.specs.Checks.{Check, broken_call, held, broken_exit}
 use Rattle.cp_code.specs.Code.{Code, Clause, Pred, Kind, Rules, Shared, Remote, Wrapped}
 use Rattle.cp_code.specs.Goals.{Builtin, OnTerms, Property, Write, NewLine, OnFacts, Post, Wait, builtin_goal, seen_pred}
-use Rattle.cp_code.specs.Requests.{Asking, Follows, Again, Facts, Fact, Number, Rest, Nothing, Raises, follows, handed_out, functor_of, full_name, existence_error, system_error, fact_asking, pred_asking, post_goal, wait_goal, answers_of, RemoteFollows, is_unbound, has_module}
+use Rattle.cp_code.specs.Requests.{Asking, Follows, Again, Facts, Fact, Number, Rest, Nothing, Raises, follows, handed_out, functor_of, full_name, existence_error, system_error, fact_asking, pred_asking, post_goal, wait_goal, answers_of, RemoteFollows, is_unbound}
 use Rattle.cp_code.specs.Requests as after_answers
 use Rattle.cp_code.specs.Tree.{Item, Goal, AskFrom, CutNow, Leave, Copy, Exit, Demands, Renamed, catchers, Done, Throw, Steps, Left, Run, Ends, Tree, in_turn, opened, read, check_ball, extended, behind, rules_of_kind, is_among, apart, variables_in, body_before, qualified, piece_of, first_of, goal_context, without_module, clauses, caught, collected, asked, wrote, answered, each_answer, next_of}
 

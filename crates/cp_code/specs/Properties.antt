@@ -149,11 +149,21 @@ abbrev pub test_by : List TypeRow → Test → Option Bool → Test
 test_by types again (Some passed) name t = passed
 test_by types again None name t = has_row again t (row_named name types)
 
+-- What is said of a term without the clauses of types: of a property of the language, and that no unbound variable has a
+-- regular type.
+abbrev pub unless_variable : (variable : Bool) → Option Bool → Option Bool
+unless_variable variable (Some passed) = Some passed
+unless_variable true None = Some false
+unless_variable false None = None
+
+abbrev pub without_types : List ℕ → List Cell → Option Bool
+without_types name t = unless_variable (is_variable t) (of_language name t)
+
 -- Whether a term as it stands has a property of the language or a regular type, at most n steps down. A step goes to a part
 -- of the term, or from one type to another of the same term.
 abbrev pub has_within : List TypeRow → ℕ → Test
 has_within types zero name t = false
-has_within types (suc n) name t = test_by types (has_within types n) (of_language name t) name t
+has_within types (suc n) name t = test_by types (has_within types n) (without_types name t) name t
 
 -- The depth of one more than the number of types times one more than the size of the term is enough: a greater one changes
 -- nothing (the law `DepthIsEnough`).

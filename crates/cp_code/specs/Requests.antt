@@ -1,5 +1,5 @@
 -- What a goal asks of the shared objects and the outside, and what follows each reply.
-use Rattle.std.specs.Prelude.{ℕ, zero, suc, Bool, true, false, nat_lt, if◌then◌else◌, List, [], ◌∷◌, length, Option, Some, None, Result, Ok, Err, ℤ, pos, codes}
+use Rattle.std.specs.Prelude.{ℕ, zero, suc, Bool, true, false, cond, nat_lt, if◌then◌else◌, List, [], ◌∷◌, length, Option, Some, None, Result, Ok, Err, ℤ, pos, codes}
 use Rattle.cp_term.specs.declared.cell.Cell.{Cell}
 use Rattle.cp_term.specs.declared.cell.Cell.TheVariants.{Var, Int, Atom, Func}
 use Rattle.cp_term.specs.declared.pred_name.PredName.{PredName}
@@ -63,6 +63,11 @@ full_kind full.Entries = resource_error (codes "predicate")
 full_kind full.Cells = resource_error (codes "predicate")
 full_kind full.Posts = resource_error (codes "goals")
 
+-- whichever limit the list of goals has met, it takes no more goals
+abbrev pub met_limit : Manner → FullBy → FullBy
+met_limit (Posts number) by = full.Posts
+met_limit manner by = by
+
 abbrev pub found_follows : Manner → ℤ → List Cell → Follows
 found_follows (Finds pattern) place fact = Facts place pattern fact
 found_follows (FindsOnce pattern) place fact = Fact pattern fact
@@ -81,7 +86,7 @@ abbrev pub follows : Manner → Reply → Follows
 follows manner (reply.Found place fact) = found_follows manner place fact
 follows manner reply.NoMore = Nothing
 follows manner reply.Parked = Again
-follows manner (reply.Full why count) = Raises (full_kind why)
+follows manner (reply.Full why count) = Raises (full_kind (met_limit manner why))
 follows manner (reply.Added place woken) = added_follows manner place
 follows manner (reply.Purged count) = other_follows manner
 follows manner (reply.Replaced place woken) = other_follows manner
@@ -129,6 +134,15 @@ functor_of (Atom a ∷ cells) = Some (a, 0)
 functor_of (Func f k ∷ cells) = Some (f, k)
 functor_of cells = None
 
+-- `M:G`, whatever M is
+abbrev pub is_qualified : List Cell → Bool
+is_qualified (Func f (suc (suc zero)) ∷ cells) = is f ":"
+is_qualified cells = false
+
+-- the functor of a fact without the modules in front of it: where `M:F` is left M is no atom, and the term is no callable
+abbrev pub fact_functor : List Cell → Option (List ℕ × ℕ)
+fact_functor t = cond (is_qualified t) None (functor_of t)
+
 abbrev pub full_name : PredName → List Cell
 full_name p = context p.module p.name p.arity
 
@@ -144,11 +158,15 @@ existence_error what culprit = with_two (codes "existence_error") (word what) cu
 abbrev pub no_data : Seen → (List ℕ × ℕ) → Refused
 no_data fact f = existence_error (codes "data") (context fact.seer f.0 f.1)
 
+-- The copy of a fact. To close or to open a predicate hands over no term, so that no limit holds for the one that names it.
+abbrev pub handed_over : FactGoal → List Cell → Result (List Cell) Refused
+handed_over g t = if needs_concurrent g then Ok (canon t) else handed_out t
+
 -- the question of a goal on facts, to what the module that sees its fact sees under that name and arity
 abbrev pub asking_of_kind : FactGoal → Seen → (List ℕ × ℕ) → PredName → Kind → List Cell → Result Asking Refused
-asking_of_kind g fact f p (Shared object true) ctx = asking_with g object ctx fact.goal (handed_out fact.goal)
+asking_of_kind g fact f p (Shared object true) ctx = asking_with g object ctx fact.goal (handed_over g fact.goal)
 asking_of_kind g fact f p (Shared object false) ctx =
-    if needs_concurrent g then Err (domain_error (codes "concurrent") (full_name p)) else asking_with g object ctx fact.goal (handed_out fact.goal)
+    if needs_concurrent g then Err (domain_error (codes "concurrent") (full_name p)) else asking_with g object ctx fact.goal (handed_over g fact.goal)
 asking_of_kind g fact f p kind ctx = Err (no_data fact f)
 
 abbrev pub asking_of_pred : FactGoal → Seen → (List ℕ × ℕ) → Option Pred → List Cell → Result Asking Refused
@@ -166,7 +184,7 @@ asking_of_functor code g fact None ctx = Err (not_callable fact.goal)
 
 -- the question of a goal on a fact, whose instance is given, by the module that sees the goal
 abbrev pub fact_asking : Code → FactGoal → Seen → List Cell → Result Asking Refused
-fact_asking code g fact ctx = asking_of_functor code g fact (functor_of fact.goal) ctx
+fact_asking code g fact ctx = asking_of_functor code g fact (fact_functor fact.goal) ctx
 
 -- a shared predicate as a goal: `current_fact` of it, in its own name
 abbrev pub pred_asking : ℕ → List Cell → PredName → Result Asking Refused

@@ -35,7 +35,7 @@ use Rattle.cp_code.specs.Properties.{has}
 use Rattle.cp_code.specs.Checks.{Check, broken_call, held, broken_exit}
 use Rattle.cp_code.specs.Code.{Code, Clause, Pred, Kind, Rules, Shared, Remote, Wrapped}
 use Rattle.cp_code.specs.Goals.{Builtin, OnTerms, Property, Write, NewLine, OnFacts, Post, Wait, builtin_goal, seen_pred}
-use Rattle.cp_code.specs.Requests.{Asking, Follows, Again, Facts, Fact, Number, Rest, Nothing, Raises, follows, handed_out, functor_of, full_name, existence_error, system_error, fact_asking, pred_asking, post_goal, wait_goal, answers_of, RemoteFollows, Fails, Throws, Breaks, is_unbound, has_module}
+use Rattle.cp_code.specs.Requests.{Asking, Follows, Again, Facts, Fact, Number, Rest, Nothing, Raises, follows, handed_out, is_qualified, functor_of, full_name, existence_error, system_error, fact_asking, pred_asking, post_goal, wait_goal, answers_of, RemoteFollows, Fails, Throws, Breaks, is_unbound, has_module}
 
 -- ---- goals
 
@@ -164,7 +164,7 @@ check_ball what p k = Func (codes "rtcheck") 3 ∷ Atom what ∷ full_name p ++ 
 
 -- ---- goals that are made at run time
 
--- the goal that a term with extra arguments is
+-- The goal that a term with extra arguments is. Where `M:G` is left of it M is no atom, and the term is no callable.
 abbrev pub with_arity : ℕ → List Cell → Result (List Cell) (List Cell)
 with_arity k goal = if nat_lt 255 k then Err (resource_error (codes "arity")) else Ok goal
 
@@ -175,7 +175,7 @@ longer goal extra = Err (type_error (codes "callable") goal)
 
 abbrev pub extended : List Cell → List (List Cell) → Result (List Cell) (List Cell)
 extended goal [] = Ok goal
-extended goal (x ∷ extra) = longer goal (x ∷ extra)
+extended goal (x ∷ extra) = if is_qualified goal then Err (type_error (codes "callable") goal) else longer goal (x ∷ extra)
 
 -- a term that is run as a goal, at a level of its own, in front of the rest
 abbrev pub enter_body : Tree → Option Body → List Cell → List Cell → List Item → Substitution → ℕ → ℕ → Left → Run

@@ -1,7 +1,7 @@
 // Laws of the definition of resolution, for the crates above.
 ghost use Rattle.cp_code.specs.Candidates.{OthersDoNotUnify, OthersAreLeftOut, NoneFindNothing, OthersAreMovedOver, NoneMovesToAFailure};
 ghost use Rattle.cp_code.specs.Lawful.{AsksAreInForm, ProgramsAskInForm};
-ghost use Rattle.cp_code.specs.Laws.{MachineComesToAnAnswer, MachineComesToTheAnswer, DepthIsEnough, HasIsItsRow, HasIsLeast, TreeIsRow, InstrumentedAsks, EndsAreNamed, MachineAsksAsTheTree, MoreUnitsChangeNothing, FirstStateMeansTheTree, MovesKeepTheMeaning, InputsKeepTheMeaning};
+ghost use Rattle.cp_code.specs.Laws.{MachineComesToAnAnswer, MachineComesToTheAnswer, DepthIsEnough, HasIsItsRow, HasIsLeast, TreeIsRow, InstrumentedAsks, InstrumentedAgain, ProgramsArePlain, InstrumentedProgramAsks, DoneTreeIsFailure, DoneIsFailure, FailureIsDone, EndsAreNamed, MachineAsksAsTheTree, MoreUnitsChangeNothing, FirstStateMeansTheTree, MovesKeepTheMeaning, InputsKeepTheMeaning};
 
 /// The tree of a list of goals is what the table says of its first goal, with the trees of the other lists of goals: the
 /// depth to which the definition goes down is never met.
@@ -10,9 +10,22 @@ pub fn a_tree_is_its_row()
 {}
 
 /// A program whose checked predicates are made their tests and the call of the predicate as it was asks just what the program
-/// with its assertions asks, on every list of inputs.
+/// with its assertions asks, on every list of inputs; and doing it again changes nothing. A program as it is loaded has no
+/// predicate that was made so, and so the first holds of every loaded program.
 pub fn instrumenting_keeps_what_is_asked()
-    ensures { InstrumentedAsks }
+    ensures asks { InstrumentedAsks }
+    ensures again { InstrumentedAgain }
+    ensures programs { ProgramsArePlain }
+    ensures loaded { InstrumentedProgramAsks }
+{}
+
+/// A tree that ends Done without an answer is failure: all that the goal could do was tried, and nothing is left. A worker
+/// that runs the goal tells `fail` of it, and it does so only where no more answers are left: a goal that has an answer is told
+/// as `true`, one that used up its units as `steps`, and one that threw a term that nothing caught as `ball(B)`.
+pub fn done_is_failure()
+    ensures tree { DoneTreeIsFailure }
+    ensures fails { DoneIsFailure }
+    ensures only { FailureIsDone }
 {}
 
 /// A tree ends by a cut or a throw only to levels and catchers that its goals name, or that it opened itself.
@@ -64,8 +77,9 @@ pub fn the_machine_comes_to_an_answer()
     ensures tree { MachineComesToTheAnswer }
 {}
 
-/// What goals ask is in form, as a machine that runs them has to say of its requests: they ask shared objects that there are,
-/// what they hand out has at most 4,096 cells, and what they call of other modules are atoms and compounds.
+/// What goals ask is in form, as a machine that runs them has to say of its requests: they ask shared objects that there are;
+/// their answers, the balls that end them and what they call of other modules have at most 4,096 cells; and what they call
+/// there are atoms and compounds.
 pub fn goals_ask_in_form()
     ensures code { AsksAreInForm }
     ensures program { ProgramsAskInForm }

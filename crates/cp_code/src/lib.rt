@@ -21,7 +21,7 @@ pub use clause::{Clause, Clauses};
 pub use import::{Import, Imports};
 pub use kind::Kind;
 pub use laws::{
-    a_tree_is_its_row, candidates_are_enough, ends_are_named, goals_ask_in_form,
+    a_tree_is_its_row, candidates_are_enough, done_is_failure, ends_are_named, goals_ask_in_form,
     instrumenting_keeps_what_is_asked, more_units_change_nothing, properties_are_the_least,
     the_machine_asks_as_the_tree, the_machine_comes_to_an_answer, the_machine_keeps_its_meaning,
 };
