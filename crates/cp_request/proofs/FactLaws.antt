@@ -48,7 +48,7 @@ fact_nowhere h c g fact name arity e has named found missing ctx =
 
 -- a goal without the modules in front of it
 pub seen_asks : (h : State) (c : code.Code) (g : goals.FactGoal) (whole fact : Seen) (object : ℕ) (ctx : List Cell) (r : Result Asking Refusal) → whole ≡ fact → FindsFact h c g fact (Ok object)
-    → Asks h (requests.asking_with g object ctx fact.goal (requests.handed_out fact.goal)) r → Asks h (requests.fact_asking c g whole ctx) r
+    → Asks h (requests.asking_with g object ctx fact.goal (requests.handed_over g fact.goal)) r → Asks h (requests.fact_asking c g whole ctx) r
 seen_asks h c g whole fact object ctx r same found asks =
     subst (λ answer. Asks h answer r) (sym (ap (λ s. requests.fact_asking c g s ctx) same ∙ found ctx)) asks
 

@@ -15,7 +15,7 @@ use Rattle.cp_request.specs.Refused.{Refuses}
 
 -- the term is callable, and has so many arguments
 abbrev pub HasArity : List Cell → ℕ → Type 0
-HasArity cells k = (f : List ℕ) × (name_of cells ≡ Some f) × (requests.functor_of cells ≡ Some (f, k))
+HasArity cells k = (f : List ℕ) × (name_of cells ≡ Some f) × (requests.fact_functor cells ≡ Some (f, k))
 
 -- no shared predicate is seen under a name and arity
 abbrev pub IsNoData : (seer name : List ℕ) → (arity : ℕ) → Refusal → Type 0
@@ -24,7 +24,7 @@ IsNoData seer name arity refusal.NoMemory = Unit {0}
 
 -- the question to a shared object, or to none
 abbrev pub asking_at : goals.FactGoal → Seen → (List ℕ × ℕ) → Option ℕ → List Cell → Result requests.Asking Refused
-asking_at g fact f (Some object) ctx = requests.asking_with g object ctx fact.goal (requests.handed_out fact.goal)
+asking_at g fact f (Some object) ctx = requests.asking_with g object ctx fact.goal (requests.handed_over g fact.goal)
 asking_at g fact f None ctx = Err (requests.no_data fact f)
 
 -- the shared object of a predicate, or that it has none, or why the goal is refused
@@ -39,5 +39,5 @@ FindsSeen h g p (Err e) = (fact : Seen) (f : List ℕ × ℕ) (ctx : List Cell) 
 
 -- the same for a goal
 abbrev pub FindsFact : State → code.Code → goals.FactGoal → Seen → Result ℕ Refusal → Type 0
-FindsFact h c g fact (Ok object) = (ctx : List Cell) → requests.fact_asking c g fact ctx ≡ requests.asking_with g object ctx fact.goal (requests.handed_out fact.goal)
+FindsFact h c g fact (Ok object) = (ctx : List Cell) → requests.fact_asking c g fact ctx ≡ requests.asking_with g object ctx fact.goal (requests.handed_over g fact.goal)
 FindsFact h c g fact (Err e) = (ctx : List Cell) → Refuses h (requests.fact_asking c g fact ctx) e

@@ -1,4 +1,4 @@
-ghost use Rattle.std.specs.Prelude.{◌≡◌, ℕ, List, IfOk, MatchResult};
+ghost use Rattle.std.specs.Prelude.{◌≡◌, ℕ, List, Ok, IfOk, MatchResult};
 ghost use Rattle.std.specs.Option.{option_copied, option_map};
 ghost use Rattle.cp_heap.specs.State.{State, instance_at};
 ghost use Rattle.cp_code.specs.declared.assertion.Assertion.{Assertion};
@@ -7,18 +7,19 @@ ghost use Rattle.cp_code.specs.Goals.{seen_pred};
 ghost use Rattle.cp_code.specs.Programs.{code_of, pred_of};
 ghost use Rattle.cp_code.specs.Requests as requests;
 ghost use Rattle.cp_request.specs.Asked.{goal_shown};
-ghost use Rattle.cp_request.specs.Refused.{kind, HasCulprit, Asks};
+ghost use Rattle.cp_request.specs.Refused.{kind, HasCulprit, Refuses, Asks};
 ghost use Rattle.cp_request.specs.Found.{HasArity, FindsObject, FindsSeen, FindsFact, IsNoData};
 ghost use Rattle.cp_request.specs.Shapes.{IsPlace};
 
 use crate::asking::Asking;
 use crate::error_kind::ErrorKind;
 use crate::fact_goal::FactGoal;
+use crate::looks::is_qualified;
 use crate::refusal::Refusal;
 use crate::seen_goal::SeenGoal;
 use cp_code::{PredInfo, PredKind, Program};
 use cp_heap::{Heap, Look, Ref};
-use cp_term::{Name, PredName};
+use cp_term::{Name, PredName, Term};
 use std::alloc::AllocError;
 
 /// What a goal on a fact asks, where the module `outer` sees the goal. The predicate is the one that is seen under the
@@ -57,9 +58,9 @@ fn asking_with(
     context: &PredName,
 ) -> Result<Asking, Refusal>
     requires { IsPlace heap.now fact }
-    ensures { Asks heap.now (requests.asking_with (goal_shown goal) object (requests.full_name context.now) (instance_at heap.now fact.at) (requests.handed_out (instance_at heap.now fact.at))) result }
+    ensures { Asks heap.now (requests.asking_with (goal_shown goal) object (requests.full_name context.now) (instance_at heap.now fact.at) (requests.handed_over (goal_shown goal) (instance_at heap.now fact.at))) result }
 {
-    let copy = heap.export(fact)?;
+    let copy = copy_for(heap, goal, fact)?;
     Ok(Asking {
         object,
         goal,
@@ -67,6 +68,20 @@ fn asking_with(
         manner: goal.manner(fact),
         context: context.clone()?,
     })
+}
+
+/// A copy of the fact. Where nothing is handed over it may be of any size.
+fn copy_for(heap: &Heap, goal: FactGoal, fact: Ref) -> Result<Term, Refusal>
+    requires { IsPlace heap.now fact }
+    ensures { MatchResult result (λ copy. requests.handed_over (goal_shown goal) (instance_at heap.now fact.at) ≡ Ok copy) (Refuses heap.now (requests.handed_over (goal_shown goal) (instance_at heap.now fact.at))) }
+{
+    if goal.needs_concurrent() {
+        let whole = heap.whole(fact)?;
+        Ok(whole)
+    } else {
+        let copy = heap.export(fact)?;
+        Ok(copy)
+    }
 }
 
 /// The shared object of what a module sees under the name and arity of a fact.
@@ -90,11 +105,14 @@ fn object_of(
     }
 }
 
-/// The number of arguments of a callable term.
+/// The number of arguments of a callable term. A term `M:F` is none, since M is no atom where it was left.
 fn arity_of(heap: &Heap, at: Ref) -> Result<u16, ErrorKind>
     requires { IsPlace heap.now at }
-    ensures { MatchResult result (HasArity (instance_at heap.now at.at)) (λ e. (requests.functor_of (instance_at heap.now at.at) ≡ None) × (requests.not_callable (instance_at heap.now at.at) ≡ kind heap.now e) × HasCulprit heap.now e) }
+    ensures { MatchResult result (HasArity (instance_at heap.now at.at)) (λ e. (requests.fact_functor (instance_at heap.now at.at) ≡ None) × (requests.not_callable (instance_at heap.now at.at) ≡ kind heap.now e) × HasCulprit heap.now e) }
 {
+    if is_qualified(heap, at) {
+        return Err(ErrorKind::NotCallable(at));
+    }
     match heap.look(at) {
         Look::Atom => Ok(0),
         Look::Func(arity) => Ok(arity),

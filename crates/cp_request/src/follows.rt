@@ -48,7 +48,7 @@ impl Follows {
             Reply::Found { place, fact } => Follows::found(manner, place, fact),
             Reply::NoMore => Follows::Nothing,
             Reply::Parked => Follows::Again,
-            Reply::Full { by, count: _ } => Follows::Raises(by),
+            Reply::Full { by, count: _ } => Follows::Raises(met_limit(manner, by)),
             Reply::Added { place, woken: _ } => Follows::added(manner, place),
             Reply::Purged { count: _ } => Follows::other(manner),
             Reply::Replaced { place: _, woken: _ } => Follows::other(manner),
@@ -94,5 +94,17 @@ impl Follows {
             Manner::FindsOnce => Follows::Rest,
             Manner::Changes => Follows::Rest,
         }
+    }
+}
+
+/// The limit that a call has met. The list of goals takes no more goals, whichever it was.
+fn met_limit(manner: Manner, by: FullBy) -> FullBy
+    ensures { (h : State) (copy : List Cell) → result ≡ requests.met_limit (manner_shown h copy manner) by }
+{
+    match manner {
+        Manner::Posts(_) => FullBy::Posts,
+        Manner::Finds(_) => by,
+        Manner::FindsOnce => by,
+        Manner::Changes => by,
     }
 }

@@ -28,7 +28,7 @@ pub use kinds::{
     domain_error_of, existence_error, full_error, instantiation_error_of, pred_indicator,
     resource_error_of, system_error, type_error_of,
 };
-pub use looks::{has_name, is_atom, is_unbound, qualified};
+pub use looks::{has_name, is_atom, is_qualified, is_unbound, qualified};
 pub use manner::Manner;
 pub use post::PostGoal;
 pub use refusal::Refusal;

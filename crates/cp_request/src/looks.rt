@@ -3,7 +3,7 @@ ghost use Rattle.cp_term.specs.Preorder.{is_terms};
 ghost use Rattle.cp_goal.specs.Builtins.{is_atom};
 ghost use Rattle.cp_heap.specs.State.{instance_at};
 ghost use Rattle.cp_heap.specs.Looks.{name_of};
-ghost use Rattle.cp_code.specs.Requests.{has_module, is_unbound};
+ghost use Rattle.cp_code.specs.Requests.{has_module, is_qualified, is_unbound};
 ghost use Rattle.cp_request.specs.Shapes.{has_name, IsPlace, HasNoArguments, IsUnary, IsPair, IsQualified};
 
 use cp_heap::{Heap, Look, Ref};
@@ -78,6 +78,17 @@ pub(crate) fn pair_of(heap: &Heap, at: Ref) -> Option<(Ref, Ref)>
             Some((first, second))
         }
         _ => None,
+    }
+}
+
+/// Whether the term is `M:G`, whatever M is.
+pub fn is_qualified(heap: &Heap, at: Ref) -> bool
+    requires { IsPlace heap.now at }
+    ensures { result ≡ is_qualified (instance_at heap.now at.at) }
+{
+    match heap.look(at) {
+        Look::Func(2) => has_name(heap, at, b":"),
+        _ => false,
     }
 }
 
