@@ -1,13 +1,13 @@
 -- A term that is run as a goal.
 use Rattle.std.proofs.Common.{◌≡◌, ℕ, suc, ◌<◌, true, false, Some, None, Option, List, [], ◌∷◌, length, refl, sym, ◌∙◌, ap, arith}
-use Rattle.std.specs.Prelude.{is_some, map, codes}
+use Rattle.std.specs.Prelude.{is_some, map, codes, if◌then◌else◌, Ok, Err}
 use Rattle.std.proofs.lemmas.Bool.{false≢true}
 use Rattle.cp_term.specs.declared.cell.Cell.{Cell}
 use Rattle.cp_term.specs.Substitution.{Substitution, apply}
 use Rattle.cp_goal.specs.Errors.{instantiation_error, type_error}
 use Rattle.cp_code.specs.Bodies.{Body, Seen, seen_from}
 use Rattle.cp_code.specs.Programs.{or_fail}
-use Rattle.cp_code.specs.Requests.{is_unbound}
+use Rattle.cp_code.specs.Requests.{is_qualified, is_unbound}
 use Rattle.cp_code.specs.Tree as tree
 use Rattle.cp_code.specs.Tree.{extended, longer}
 use Rattle.cp_code.specs.Machine as machine
@@ -30,9 +30,13 @@ pub some-of : {A : Type 0} (xs : List A) → (xs ≡ [] → ⊥) → 0 < length 
 some-of [] not = absurd (not refl)
 some-of (x ∷ xs) not = omega arith
 
-pub extended-some : (g : List Cell) (extra : List (List Cell)) (n : ℕ) → length extra ≡ n → 0 < n → extended g extra ≡ longer g extra
-extended-some g [] n len some = absurd (omega arith)
-extended-some g (x ∷ extra) n len some = refl
+pub extended-some : (g : List Cell) (extra : List (List Cell)) (n : ℕ) → length extra ≡ n → 0 < n → is_qualified g ≡ false → extended g extra ≡ longer g extra
+extended-some g [] n len some is = absurd (omega arith)
+extended-some g (x ∷ extra) n len some is = ap (λ b. if b then Err (type_error (codes "callable") g) else longer g (x ∷ extra)) is
+
+pub extended-qualified : (g : List Cell) (extra : List (List Cell)) (n : ℕ) → length extra ≡ n → 0 < n → is_qualified g ≡ true → extended g extra ≡ Err (type_error (codes "callable") g)
+extended-qualified g [] n len some is = absurd (omega arith)
+extended-qualified g (x ∷ extra) n len some is = ap (λ b. if b then Err (type_error (codes "callable") g) else longer g (x ∷ extra)) is
 
 pub unbound-goal : (m : List ℕ) (g : List Cell) (extra : List (List Cell)) (ctx : List Cell) (rest : List tree.Item) (s : Substitution) (next level units : ℕ) (copies : List (List Cell)) (fs : List machine.Frame)
     → (x : Seen) → seen_from m (apply s g) ≡ x → is_unbound x.goal ≡ true

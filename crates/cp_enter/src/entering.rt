@@ -13,7 +13,7 @@ ghost use Rattle.cp_enter.specs.Rows.{enter_row, goal_row, body_row, opened_row}
 use crate::extended::Extended;
 use crate::raising::{raise_not_callable, raise_unbound};
 use cp_heap::{Ref, Refs};
-use cp_request::{SeenGoal, is_body, is_unbound};
+use cp_request::{SeenGoal, is_body, is_qualified, is_unbound};
 use cp_run::{Goal, Item, Point, Run};
 use cp_term::{Name, PredName};
 use std::alloc::AllocError;
@@ -65,6 +65,10 @@ fn enter_seen(
 {
     if extra.is_empty() {
         enter_term(run, seer, goal, context, rest, level)?;
+        return Ok(());
+    }
+    if is_qualified(&run.heap, goal) {
+        raise_not_callable(run, goal, context, rest)?;
         return Ok(());
     }
     enter_longer(run, seer, goal, extra, context, rest, level)?;

@@ -1,16 +1,16 @@
 -- Clauses of types by their cells.
-use Rattle.std.proofs.Common.{◌≡◌, ℕ, zero, suc, ◌+◌, ◌≤◌, Bool, true, false, List, [], ◌∷◌, ◌++◌, length, refl, sym, ◌∙◌, ap, subst, arith, append-nil}
-use Rattle.std.specs.Prelude.{Some, None, ◌&&◌, nat_eq, if◌then◌else◌, codes}
+use Rattle.std.proofs.Common.{◌≡◌, ℕ, zero, suc, ◌+◌, true, false, List, [], ◌∷◌, refl, sym, ◌∙◌, ap, subst, append-nil}
+use Rattle.std.specs.Prelude.{Some, None, ◌&&◌, nat_eq, if◌then◌else◌}
 use Rattle.std.proofs.Math.Nat.{add-zero}
 use Rattle.std.proofs.lemmas.Bool.{and_parts, false≢true}
 use Rattle.std.proofs.lemmas.Bool.Decides.{Decides-eqb}
 use Rattle.cp_term.specs.declared.cell.Cell.{Cell}
 use Rattle.cp_term.specs.declared.cell.Cell.TheVariants.{Var, Int, Atom, Func}
-use Rattle.cp_term.specs.Preorder.{has_arity, is_terms, take_terms, drop_terms, split_terms, arguments, terms_after}
+use Rattle.cp_term.specs.Preorder.{has_arity, is_terms, take_terms, drop_terms, split_terms, arguments}
 use Rattle.cp_term.proofs.lemmas.PreorderLaws.{take_terms-append, is_terms-take_terms, is_terms-drop_terms}
 use Rattle.cp_code.specs.Bodies.{is, seen_from}
 use Rattle.cp_code.specs.Clauses.{is_rule}
-use Rattle.cp_code.specs.Properties.{TypeClause, pattern_of, rule_of, clause_of}
+use Rattle.cp_code.specs.Properties.{pattern_of, rule_of, clause_of}
 use Rattle.cp_props.specs.Pending.{behind_first}
 use Rattle.cp_props.specs.Demands.{demands}
 use Rattle.cp_props.specs.Scans.{is_no_fact, is_unary, no_clause, fact_body}

@@ -1,5 +1,5 @@
 -- A clause of a type fits a term just where all that it demands of the term is met.
-use Rattle.std.proofs.Common.{◌≡◌, ℕ, zero, suc, Bool, true, false, ◌&&◌, List, [], ◌∷◌, ◌++◌, length, map, refl, sym, ◌∙◌, ap}
+use Rattle.std.proofs.Common.{◌≡◌, ℕ, zero, suc, Bool, true, false, ◌&&◌, List, [], ◌∷◌, ◌++◌, length, refl, sym, ◌∙◌, ap}
 use Rattle.std.specs.Prelude.{Option, Some, None, if◌then◌else◌}
 use Rattle.std.specs.List.{list_all}
 use Rattle.cp_term.specs.declared.cell.Cell.{Cell}
@@ -8,7 +8,7 @@ use Rattle.cp_term.specs.Preorder.{arguments}
 use Rattle.cp_goal.specs.Lists.{Spine, Proper, Partial, Improper, spine}
 use Rattle.cp_code.specs.Bodies.{is, seen_from}
 use Rattle.cp_code.specs.Properties.{Place, TypeClause, Test, matched, variable_term, first_name, passes, all_pass, demand_met, goal_met, body_met, fits_places, fits_clause}
-use Rattle.cp_props.specs.Demands.{Demand, joined, both, of_variable, of_each, of_spine, of_elements, demanded, goal_demands, all_demands, body_demands, demands_at, demands, are_met, met}
+use Rattle.cp_props.specs.Demands.{Demand, both, of_variable, of_each, of_spine, of_elements, demanded, goal_demands, all_demands, body_demands, demands_at, demands, are_met, met}
 
 and-true : (a : Bool) → (a && true) ≡ a
 and-true true = refl

@@ -1,18 +1,17 @@
 -- The steps of the search for whether a term has a property.
-use Rattle.std.proofs.Common.{◌≡◌, ℕ, zero, suc, ◌+◌, ◌-◌, ◌*◌, ◌<◌, ◌≤◌, Bool, true, false, ◌&&◌, List, [], ◌∷◌, ◌++◌, length, map, drop, inl, inr, refl, sym, ◌∙◌, ap, subst, arith, rules}
+use Rattle.std.proofs.Common.{◌≡◌, ℕ, zero, suc, ◌+◌, ◌-◌, ◌*◌, ◌<◌, ◌≤◌, Bool, true, false, List, [], ◌∷◌, ◌++◌, length, drop, inl, inr, refl, sym, ◌∙◌, ap, subst, arith, rules}
 use Rattle.std.specs.Prelude.{Option, Some, None, ◌⊎◌, ◌||◌, if◌then◌else◌, slice_get, get_or}
-use Rattle.std.specs.List.{list_any}
 use Rattle.std.specs.Result.{IfOk}
 use Rattle.std.specs.Str.{bytes_eq}
 use Rattle.std.specs.Prelude.{Result, Ok, Err}
-use Rattle.std.proofs.lemmas.List.{map_push, drop_all}
+use Rattle.std.proofs.lemmas.List.{map_push}
 use Rattle.std.proofs.lemmas.Option.{slice_get-get_or, slice_get_cases}
 use Rattle.cp_term.specs.declared.cell.Cell.{Cell}
-use Rattle.cp_heap.specs.State.{State, instance_at}
-use Rattle.cp_code.specs.Properties.{TypeRow, of_language, clause_of, row_named, test_by, has_row, fits_clause, has_within, has}
+use Rattle.cp_heap.specs.State.{State}
+use Rattle.cp_code.specs.Properties.{TypeRow, without_types, clause_of, row_named, test_by, has_row, fits_clause, has_within, has}
 use Rattle.cp_props.specs.declared.attempt.Attempt as code
 use Rattle.cp_props.specs.Demands.{Demand, demands, are_met, met}
-use Rattle.cp_props.specs.Search.{Attempt, some_clause, answer, ends, Cost, demands_cost, clause_cost, clauses_cost, row_cost, test_cost, cost_within, attempt_cost, attempts_cost, GoesOn, Tests, row_clauses, attempt_shown, attempts_shown}
+use Rattle.cp_props.specs.Search.{Attempt, some_clause, answer, ends, demands_cost, clause_cost, row_cost, test_cost, cost_within, attempt_cost, attempts_cost, GoesOn, Tests, row_clauses, attempt_shown, attempts_shown}
 use Rattle.cp_props.proofs.Meeting.{fits_met}
 use Rattle.cp_props.proofs.Stacks.{drop-got}
 
@@ -67,13 +66,13 @@ module _ (types : List TypeRow) where
   -- ---- a test
 
   module _ (name : List ℕ) (t : List Cell) where
-    pub tests_language : (n : ℕ) (old : List Attempt) (passed : Bool) → 0 < n → of_language name t ≡ Some passed → Tests types n name t old old passed
+    pub tests_language : (n : ℕ) (old : List Attempt) (passed : Bool) → 0 < n → without_types name t ≡ Some passed → Tests types n name t old old passed
     tests_language zero old passed some e = absurd (omega arith)
     tests_language (suc n) old passed some e =
         let same : has_within types (suc n) name t ≡ passed = ap (λ o. test_by types (has_within types n) o name t) e in
         record { answer_is = ap (ends types old) (sym same); less = omega arith }
 
-    tests_row : (n : ℕ) (old new : List Attempt) (passed : Bool) → of_language name t ≡ None
+    tests_row : (n : ℕ) (old new : List Attempt) (passed : Bool) → without_types name t ≡ None
         → ends types new passed ≡ ends types old (has_row (has_within types n) t (row_named name types))
         → attempts_cost types new ≤ attempts_cost types old + row_cost (cost_within types n) t (row_named name types)
         → Tests types (suc n) name t old new passed
@@ -85,7 +84,7 @@ module _ (types : List TypeRow) where
           less = subst (λ k. attempts_cost types new ≤ attempts_cost types old + k) (sym cost) fewer;
         }
 
-    pub tests_type : (n : ℕ) (old new : List Attempt) (passed : Bool) → 0 < n → of_language name t ≡ None
+    pub tests_type : (n : ℕ) (old new : List Attempt) (passed : Bool) → 0 < n → without_types name t ≡ None
         → ends types new passed ≡ ends types old (has_row (has_within types (n - 1)) t (row_named name types))
         → attempts_cost types new ≤ attempts_cost types old + row_cost (cost_within types (n - 1)) t (row_named name types)
         → Tests types n name t old new passed
@@ -211,7 +210,7 @@ none_past xs i e = none-at xs i (slice_get_cases xs i).1 e
 
 -- ---- the depth that is enough
 
-pub has_language : (types : List TypeRow) (name : List ℕ) (t : List Cell) (passed : Bool) → of_language name t ≡ Some passed → has types name t ≡ passed
+pub has_language : (types : List TypeRow) (name : List ℕ) (t : List Cell) (passed : Bool) → without_types name t ≡ Some passed → has types name t ≡ passed
 has_language types name t passed e = at_depth (suc (length types) * suc (length t)) (search rules)
   where
     at_depth : (n : ℕ) → 0 < n → has_within types n name t ≡ passed

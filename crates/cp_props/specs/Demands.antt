@@ -2,7 +2,7 @@
 use Rattle.std.specs.Prelude.{ℕ, zero, suc, ◌<◌, Bool, false, if◌then◌else◌, List, [], ◌∷◌, ◌++◌, map, length, All, Option, Some, None}
 use Rattle.std.specs.List.{list_all}
 use Rattle.cp_term.specs.declared.cell.Cell.{Cell}
-use Rattle.cp_term.specs.declared.cell.Cell.TheVariants.{Var, Int, Atom, Func}
+use Rattle.cp_term.specs.declared.cell.Cell.TheVariants.{Atom, Func}
 use Rattle.cp_term.specs.Preorder.{arguments}
 use Rattle.cp_goal.specs.Lists.{Spine, Proper, Partial, Improper, spine}
 use Rattle.cp_heap.specs.State.{State, instance_at}

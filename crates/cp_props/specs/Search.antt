@@ -1,10 +1,10 @@
 -- The search for whether a term has a property: the attempts at the types that are tried, each for a demand of the one before
 -- it, and how much is left to do.
-use Rattle.std.specs.Prelude.{◌≡◌, ℕ, zero, suc, ◌+◌, ◌<◌, ◌≤◌, Bool, false, ◌&&◌, ◌||◌, List, [], ◌∷◌, map, length, drop, slice_get, All, Option, Some, None}
+use Rattle.std.specs.Prelude.{◌≡◌, ℕ, zero, suc, ◌+◌, ◌<◌, ◌≤◌, Bool, ◌&&◌, ◌||◌, List, [], ◌∷◌, map, length, drop, slice_get, All, Option, Some, None}
 use Rattle.std.specs.List.{list_any}
 use Rattle.cp_term.specs.declared.cell.Cell.{Cell}
 use Rattle.cp_heap.specs.State.{State, instance_at}
-use Rattle.cp_code.specs.Properties.{TypeRow, Test, of_language, clause_of, row_named, fits_clause, has_within}
+use Rattle.cp_code.specs.Properties.{TypeRow, without_types, clause_of, row_named, fits_clause, has_within}
 use Rattle.cp_props.specs.declared.attempt.Attempt as code
 use Rattle.cp_props.specs.Demands.{Demand, demands, are_met, demands_shown, AreDemands}
 
@@ -54,7 +54,7 @@ test_cost cost t None row = row_cost cost t row
 
 abbrev pub cost_within : List TypeRow → ℕ → Cost
 cost_within types zero name t = 0
-cost_within types (suc n) name t = test_cost (cost_within types n) t (of_language name t) (row_named name types)
+cost_within types (suc n) name t = test_cost (cost_within types n) t (without_types name t) (row_named name types)
 
 unfoldable pub attempt_cost : List TypeRow → Attempt → ℕ
 attempt_cost types a = suc (demands_cost (cost_within types a.depth) a.demands + clauses_cost (cost_within types a.depth) a.term a.clauses)

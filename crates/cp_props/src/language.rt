@@ -1,7 +1,7 @@
 ghost use Rattle.std.specs.Prelude.{◌≡◌, ◌<◌, length, IfOk};
 ghost use Rattle.std.specs.Option.{option_map};
 ghost use Rattle.cp_heap.specs.State.{instance_at};
-ghost use Rattle.cp_code.specs.Properties.{of_language};
+ghost use Rattle.cp_code.specs.Properties.{of_language, without_types};
 ghost use Rattle.cp_props.specs.Language.{property_named, number_named, constant_named, compound_named, meets};
 
 use crate::looks::{is_atom, is_compound, is_integer, is_natural, is_proper_list, is_variable};
@@ -37,12 +37,7 @@ pub enum Property {
 }
 
 /// What a property of the language says of the term at a place; None where the name is that of none.
-pub(crate) fn of_language(
-    alloc: Global,
-    heap: &Heap,
-    name: &Name,
-    at: Ref,
-) -> Result<Option<bool>, AllocError>
+fn of_language(alloc: Global, heap: &Heap, name: &Name, at: Ref) -> Result<Option<bool>, AllocError>
     requires { at.at < length heap.now.terms }
     ensures { IfOk result (λ answer. answer ≡ of_language name.now (instance_at heap.now at.at)) }
 {
@@ -52,6 +47,28 @@ pub(crate) fn of_language(
             Ok(Some(answer))
         }
         None => Ok(None),
+    }
+}
+
+/// The same, and that no unbound variable has a regular type; None where it is for the clauses of a type to say.
+pub(crate) fn without_types(
+    alloc: Global,
+    heap: &Heap,
+    name: &Name,
+    at: Ref,
+) -> Result<Option<bool>, AllocError>
+    requires { at.at < length heap.now.terms }
+    ensures { IfOk result (λ answer. answer ≡ without_types name.now (instance_at heap.now at.at)) }
+{
+    match of_language(alloc, heap, name, at)? {
+        Some(answer) => Ok(Some(answer)),
+        None => {
+            if is_variable(heap, at) {
+                Ok(Some(false))
+            } else {
+                Ok(None)
+            }
+        }
     }
 }
 

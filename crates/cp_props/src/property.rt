@@ -3,7 +3,7 @@ ghost use Rattle.cp_heap.specs.State.{instance_at};
 ghost use Rattle.cp_code.specs.Properties.{has};
 ghost use Rattle.cp_code.specs.Programs.{type_of};
 
-use crate::language::of_language;
+use crate::language::without_types;
 use crate::search::has_within;
 use crate::stack::size_of;
 use cp_code::Types;
@@ -24,7 +24,7 @@ pub fn has(
     requires { at.at < length heap.now.terms }
     ensures { IfOk result (λ answer. answer ≡ has (map type_of types.now) name.now (instance_at heap.now at.at)) }
 {
-    match of_language(alloc, heap, name, at)? {
+    match without_types(alloc, heap, name, at)? {
         Some(answer) => Ok(answer),
         None => has_type(alloc, types, heap, name, at),
     }

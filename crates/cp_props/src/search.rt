@@ -9,7 +9,7 @@ ghost use Rattle.cp_props.specs.Search.{ends, cost_within, row_cost, attempts_co
 use crate::attempt::{Attempt, Attempts};
 use crate::clause::demands_of;
 use crate::demand::{Demand, Demands};
-use crate::language::of_language;
+use crate::language::without_types;
 use cp_code::{Clause, TypeRow, Types};
 use cp_heap::{Heap, Ref};
 use cp_term::Name;
@@ -59,7 +59,7 @@ fn test(
     if depth == 0 {
         return Ok(false);
     }
-    match of_language(alloc, heap, name, at)? {
+    match without_types(alloc, heap, name, at)? {
         Some(passed) => Ok(passed),
         None => test_type(alloc, types, heap, attempts, depth - 1, name, at),
     }

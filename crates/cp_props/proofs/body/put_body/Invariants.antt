@@ -1,4 +1,4 @@
-use Rattle.std.proofs.Common.{◌≡◌, ◌≤◌, ℕ, suc, true, length}
+use Rattle.std.proofs.Common.{◌≡◌, ◌≤◌, ℕ, true, length}
 use Rattle.cp_term.specs.Preorder.{is_terms}
 use Rattle.cp_props.specs.Patterns.{places_shown}
 use Rattle.cp_props.specs.Scans.{scanned, whole_body}

@@ -1,7 +1,6 @@
 use Rattle.std.proofs.Common.{◌≡◌, true, List, sym, ◌∙◌, ap, subst}
 use Rattle.cp_term.specs.declared.cell.Cell.{Cell}
 use Rattle.cp_term.specs.Preorder.{is_terms}
-use Rattle.cp_code.specs.Properties.{TypeClause}
 use Rattle.cp_props.proofs.Clausal.{unary_term, unary_pattern, other_pattern}
 use Rattle.cp_props.proofs.clause.argument_of.Goals as goal
 

@@ -1,4 +1,4 @@
-use Rattle.std.proofs.Common.{◌≡◌, ◌+◌, true, cond, List, ◌∷◌, length, drop, ◌∙◌, ap, subst}
+use Rattle.std.proofs.Common.{◌≡◌, ◌+◌, true, cond, List, length, drop, ◌∙◌, ap, subst}
 use Rattle.std.specs.Prelude.{None}
 use Rattle.cp_term.specs.declared.cell.Cell.{Cell}
 use Rattle.cp_term.specs.Preorder.{is_terms}

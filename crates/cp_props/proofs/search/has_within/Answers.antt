@@ -1,4 +1,4 @@
-use Rattle.std.proofs.Common.{◌≡◌, ◌<◌, map, sym, ◌∙◌, arith}
+use Rattle.std.proofs.Common.{map, sym, ◌∙◌, arith}
 use Rattle.cp_code.specs.Programs.{type_of}
 use Rattle.cp_props.proofs.Searching.{pushed-ends, pushed-cost}
 use Rattle.cp_props.proofs.search.has_within.Goals as goal

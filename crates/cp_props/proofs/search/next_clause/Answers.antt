@@ -1,5 +1,4 @@
-use Rattle.std.proofs.Common.{◌≡◌, ◌≤◌, ℕ, Bool, false, not, List, [], ◌∷◌, length, map, drop, sym, ◌∙◌, ap, subst, arith}
-use Rattle.std.specs.Prelude.{None, slice_get}
+use Rattle.std.proofs.Common.{◌≡◌, Bool, false, not, [], map, drop, sym, ap, subst}
 use Rattle.std.proofs.lemmas.List.{drop_all}
 use Rattle.cp_code.specs.Programs.{type_of}
 use Rattle.cp_props.specs.Search.{clauses_at, attempt_shown, attempts_shown, GoesOn}

@@ -1,5 +1,4 @@
-use Rattle.std.proofs.Common.{◌≡◌, ◌≤◌, ℕ, Bool, true, List, [], ◌∷◌, length, map, drop, sym, ◌∙◌, ap, subst, arith}
-use Rattle.std.specs.Prelude.{None, slice_get}
+use Rattle.std.proofs.Common.{◌≡◌, Bool, true, [], map, drop, sym, ◌∙◌, subst, arith}
 use Rattle.std.proofs.lemmas.List.{drop_all, length-map}
 use Rattle.cp_code.specs.Programs.{type_of}
 use Rattle.cp_props.specs.Demands.{demands_shown, demand_shown}

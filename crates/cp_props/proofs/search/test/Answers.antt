@@ -1,4 +1,4 @@
-use Rattle.std.proofs.Common.{◌≡◌, ◌≤◌, ◌+◌, ◌-◌, ◌<◌, Bool, map, sym, ◌∙◌, ap, arith}
+use Rattle.std.proofs.Common.{◌≡◌, ◌≤◌, ◌+◌, ◌-◌, ◌<◌, Bool, map, sym, ◌∙◌, arith}
 use Rattle.cp_heap.specs.State.{instance_at}
 use Rattle.cp_code.specs.Properties.{has_row, has_within, row_named}
 use Rattle.cp_code.specs.Programs.{type_of}

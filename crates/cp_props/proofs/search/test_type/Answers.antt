@@ -1,10 +1,10 @@
-use Rattle.std.proofs.Common.{◌≡◌, ◌≤◌, ◌+◌, ◌<◌, false, List, [], ◌∷◌, ◌++◌, length, map, sym, ◌∙◌, ap, subst, arith}
+use Rattle.std.proofs.Common.{◌+◌, ◌<◌, false, [], ◌∷◌, ◌++◌, length, map, ◌∙◌, ap, arith}
 use Rattle.std.proofs.lemmas.List.{length-map}
 use Rattle.cp_heap.specs.State.{instance_at}
 use Rattle.cp_code.specs.Properties.{has_row, has_within}
 use Rattle.cp_code.specs.Programs.{type_of}
 use Rattle.cp_props.specs.declared.attempt.Attempt.{Attempt}
-use Rattle.cp_props.specs.Search.{ends, row_cost, cost_within, attempts_cost, attempts_shown}
+use Rattle.cp_props.specs.Search.{ends, row_cost, cost_within, attempts_shown}
 use Rattle.cp_props.proofs.Searching.{pushed-ends, pushed-cost, type_answer, type_cost}
 use Rattle.cp_props.proofs.search.test_type.Goals as goal
 

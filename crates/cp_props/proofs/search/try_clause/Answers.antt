@@ -1,5 +1,5 @@
-use Rattle.std.proofs.Common.{◌≡◌, ◌+◌, ◌<◌, Bool, true, false, List, [], ◌∷◌, ◌++◌, length, map, drop, sym, ◌∙◌, ap, subst, rules}
-use Rattle.std.specs.Prelude.{Option, Some, None, OnOk, slice_get}
+use Rattle.std.proofs.Common.{◌≡◌, ◌+◌, Bool, true, false, List, [], ◌∷◌, ◌++◌, map, drop, sym, ◌∙◌, ap, subst, rules}
+use Rattle.std.specs.Prelude.{Some, None}
 use Rattle.std.specs.Option.{option_map}
 use Rattle.std.proofs.lemmas.Result.{IfOk-weaker}
 use Rattle.std.proofs.lemmas.List.Elements.{All-push}
@@ -8,7 +8,7 @@ use Rattle.cp_code.specs.Properties.{clause_of}
 use Rattle.cp_code.specs.Programs.{type_of}
 use Rattle.cp_props.specs.declared.attempt.Attempt.{Attempt}
 use Rattle.cp_props.specs.declared.demand.Demand.{Demand}
-use Rattle.cp_props.specs.Demands.{demands, demands_shown, AreDemands}
+use Rattle.cp_props.specs.Demands.{demands, demands_shown}
 use Rattle.cp_props.specs.Search.{clauses_at, attempt_shown, attempts_shown, GoesOn, IsLive, AreLive}
 use Rattle.cp_props.proofs.Stacks.{drop-got}
 use Rattle.cp_props.proofs.Searching.{if_ok_both, pushed-ends, pushed-cost, goes_to_clause, goes_past_clause}

@@ -1,9 +1,7 @@
-use Rattle.std.proofs.Common.{◌≡◌, ℕ, ◌+◌, ◌-◌, ◌≤◌, ◌++◌, [], ◌∷◌, length, drop, refl, sym, ◌∙◌, ap, subst, arith, length-append}
+use Rattle.std.proofs.Common.{◌≡◌, ◌+◌, ◌-◌, ◌≤◌, ◌++◌, [], ◌∷◌, length, drop, refl, sym, ◌∙◌, ap, subst, arith, length-append}
 use Rattle.std.specs.List.{flat_map}
 use Rattle.std.proofs.lemmas.List.{drop_all}
-use Rattle.std.proofs.lemmas.List.Elements.{All-push}
 use Rattle.cp_term.specs.Preorder.{arguments}
-use Rattle.cp_heap.specs.declared.reference.Ref.{Ref}
 use Rattle.cp_heap.specs.State.{instance_at, AreRefs}
 use Rattle.cp_lists.proofs.lemmas.Places.{live-push}
 use Rattle.cp_props.specs.Pending.{pending}

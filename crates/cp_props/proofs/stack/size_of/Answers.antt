@@ -1,5 +1,4 @@
-use Rattle.std.proofs.Common.{◌≡◌, suc, length, arith}
-use Rattle.cp_props.specs.Pending.{pending}
+use Rattle.std.proofs.Common.{arith}
 use Rattle.cp_props.proofs.Stacks.{walked-one}
 use Rattle.cp_props.proofs.stack.size_of.Goals as goal
 
