@@ -1,6 +1,6 @@
 -- What a compound is as a body, by what its arguments are.
-use Rattle.std.proofs.Common.{◌≡◌, ℕ, zero, suc, ◌+◌, ◌-◌, ◌<◌, ◌≤◌, true, false, Bool, Some, None, Option, List, [], ◌∷◌, ◌++◌, map, length, take, drop, get_or, slice_index_or, refl, sym, ◌∙◌, ap, subst, append_assoc, append-nil, arith, length-append, length-drop, add-one, drop-cons}
-use Rattle.std.specs.Prelude.{ℤ, ◌&&◌, nat_le, if◌then◌else◌, codes}
+use Rattle.std.proofs.Common.{◌≡◌, ℕ, zero, suc, ◌+◌, ◌-◌, ◌<◌, ◌≤◌, true, false, Bool, Some, None, List, [], ◌∷◌, ◌++◌, map, length, take, drop, get_or, slice_index_or, refl, sym, ◌∙◌, ap, append_assoc, append-nil, arith, length-drop, drop-cons}
+use Rattle.std.specs.Prelude.{ℤ, ◌&&◌, nat_le, if◌then◌else◌}
 use Rattle.std.specs.List.{flat_map}
 use Rattle.std.proofs.lemmas.Bool.{and_parts, false≢true, le-leb, lt-leb}
 use Rattle.std.proofs.lemmas.List.{take-append-le, drop-append-le, length-take-le}
@@ -9,7 +9,7 @@ use Rattle.cp_term.specs.declared.cell.Cell.TheVariants.{Var, Int, Atom, Func}
 use Rattle.cp_term.specs.Preorder.{arity_of, has_arity, terms_after, is_terms}
 use Rattle.cp_goal.specs.Folds.{of_terms}
 use Rattle.cp_heap.specs.State.{AreTerms}
-use Rattle.cp_code.specs.Bodies.{Body, CallOf, Plain, Read, read_of, unread, cells_of, body_of, atom_body, compound_body, is, arrow_of, NoArrow}
+use Rattle.cp_code.specs.Bodies.{CallOf, Plain, Read, read_of, unread, cells_of, body_of, atom_body, compound_body, is, arrow_of, NoArrow}
 use Rattle.cp_control.specs.Control.{arrow_in, reading, readings}
 
 -- ---- lists

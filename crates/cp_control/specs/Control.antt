@@ -1,5 +1,5 @@
 -- A term of the heap in the place of a goal, read by one functor at a time. Its parts are places of the heap.
-use Rattle.std.specs.Prelude.{ℕ, Bool, true, false, ◌+◌, ◌<◌, ◌≤◌, Option, Some, None, List, [], ◌∷◌, take, drop, get_or, map, slice_index_or}
+use Rattle.std.specs.Prelude.{ℕ, Bool, true, false, ◌+◌, ◌<◌, ◌≤◌, Option, Some, None, List, [], take, drop, get_or, map, slice_index_or}
 use Rattle.cp_term.specs.declared.cell.Cell.{Cell}
 use Rattle.cp_goal.specs.Folds.{of_terms}
 use Rattle.cp_heap.specs.declared.reference.Ref.{Ref}

@@ -1,11 +1,11 @@
 -- A run that enters a clause.
-use Rattle.std.proofs.Common.{◌≡◌, ℕ, zero, suc, ◌+◌, ◌<◌, ◌≤◌, Bool, true, false, cond, Some, None, Option, List, [], ◌∷◌, ◌++◌, map, reverse, length, take, get_or, max, refl, sym, ◌∙◌, ap, subst, arith}
+use Rattle.std.proofs.Common.{◌≡◌, ℕ, zero, suc, ◌+◌, ◌<◌, Bool, true, false, cond, Some, None, Option, List, [], ◌∷◌, ◌++◌, reverse, length, get_or, max, refl, sym, ◌∙◌, ap, subst}
 use Rattle.std.specs.Prelude.{is_some, IfSome}
 use Rattle.std.proofs.lemmas.Bool.{false≢true}
 use Rattle.std.specs.Option.{option_map}
 use Rattle.cp_term.specs.declared.cell.Cell.{Cell}
 use Rattle.cp_term.specs.Numbering.{fresh, next_variable}
-use Rattle.cp_term.specs.Substitution.{Substitution, Binding, apply}
+use Rattle.cp_term.specs.Substitution.{Substitution, apply}
 use Rattle.cp_term.specs.Unification.{Disagreement, Same, Clash, Bind, disagreement, disagreement_under, unify, unify_by}
 use Rattle.cp_term.proofs.lemmas.SubstitutionLaws.{apply-after}
 use Rattle.cp_heap.specs.declared.reference.Ref.{Ref}

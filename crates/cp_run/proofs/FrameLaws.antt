@@ -1,10 +1,9 @@
 -- Frames that are pushed and dropped.
-use Rattle.std.proofs.Common.{◌≡◌, ℕ, zero, suc, ◌+◌, ◌<◌, ◌≤◌, true, false, cond, nat_eq, List, [], ◌∷◌, ◌++◌, map, reverse, length, take, get_or, refl, sym, ◌∙◌, ap, subst, arith}
+use Rattle.std.proofs.Common.{◌≡◌, ℕ, ◌+◌, true, false, cond, List, [], ◌∷◌, ◌++◌, reverse, length, sym, ◌∙◌, ap, subst, arith}
 use Rattle.std.proofs.lemmas.List.{reverse-append}
 use Rattle.cp_code.specs.Code.{Code}
 use Rattle.cp_code.specs.Machine as machine
 use Rattle.cp_code.specs.Machine.{drop_to}
-use Rattle.cp_run.specs.declared.moment.Moment.{Moment}
 use Rattle.cp_run.specs.declared.frame.Frame.{Frame}
 use Rattle.cp_run.specs.declared.frame.Frame.TheVariants as frame
 use Rattle.cp_run.specs.Shown.{Here, back, frames_shown}

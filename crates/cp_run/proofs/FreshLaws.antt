@@ -7,7 +7,7 @@ use Rattle.cp_term.specs.declared.cell.Cell.{Cell}
 use Rattle.cp_term.specs.declared.cell.Cell.TheVariants.{Var, Int, Atom, Func}
 use Rattle.cp_term.specs.Numbering.{renamed, fresh}
 use Rattle.cp_goal.specs.Folds.{of_terms}
-use Rattle.cp_code.specs.Bodies.{Body, Cut, True, Fail, Both, Either, Choose, CallOf, CatchOf, ThrowOf, FindAll, Plain, Reads, Read, Arrow, NoArrow, IfThen, two_bodies, three_bodies, read_of, unread, cells_of, body_of, fresh_body, is, atom_body, within_module, either_body, unary_body, binary_body, ternary_body, longer_body, compound_body, arrow_of}
+use Rattle.cp_code.specs.Bodies.{Body, True, Fail, Both, Either, Choose, CallOf, CatchOf, ThrowOf, FindAll, Plain, Reads, Read, Arrow, NoArrow, IfThen, two_bodies, three_bodies, read_of, unread, cells_of, body_of, fresh_body, is, atom_body, within_module, either_body, unary_body, binary_body, ternary_body, longer_body, compound_body, arrow_of}
 
 module _ (n : ℕ) where
   new : Option Body → Option Body

@@ -6,12 +6,12 @@ use Rattle.cp_goal.specs.Errors.{resource_error}
 use Rattle.cp_code.specs.Requests.{handed_out}
 use Rattle.cp_term.specs.declared.cell.Cell.{Cell}
 use Rattle.cp_term.specs.Substitution.{apply}
-use Rattle.cp_heap.specs.State.{State, Extends}
+use Rattle.cp_heap.specs.State.{State}
 use Rattle.cp_heap.proofs.lemmas.Growth.{places-more}
 use Rattle.cp_lists.specs.Growing.{GainsTerms}
 use Rattle.cp_code.specs.Code.{Code}
 use Rattle.cp_run.specs.declared.run.Run.{Run}
-use Rattle.cp_run.specs.Shown.{here_of, bound, instance_in, goals_shown, frames_of, moved}
+use Rattle.cp_run.specs.Shown.{here_of, bound, goals_shown, frames_of, moved}
 use Rattle.cp_run.specs.Stands.{Holds}
 use Rattle.cp_run.specs.Entering.{IsExtended}
 use Rattle.cp_run.specs.Gaining.{Row, IsGained}

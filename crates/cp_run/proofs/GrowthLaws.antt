@@ -1,5 +1,5 @@
 -- A run that grows: what its goals and frames stand for stays.
-use Rattle.std.proofs.Common.{◌≡◌, ℕ, zero, suc, ◌+◌, ◌<◌, ◌≤◌, true, List, [], ◌∷◌, ◌++◌, map, reverse, length, take, drop, get_or, refl, sym, ◌∙◌, ap, subst, arith, length-append}
+use Rattle.std.proofs.Common.{◌≡◌, ℕ, zero, suc, ◌+◌, ◌<◌, ◌≤◌, List, [], ◌∷◌, ◌++◌, map, reverse, length, take, drop, get_or, refl, sym, ◌∙◌, ap, subst, arith, length-append}
 use Rattle.std.specs.Prelude.{is_some, codes}
 use Rattle.std.proofs.lemmas.List.{length-take, length-take-le, take-take}
 use Rattle.std.proofs.Math.Seq.{take-length, take-append_seam}
@@ -30,9 +30,9 @@ use Rattle.cp_run.specs.declared.moment.Moment.{Moment}
 use Rattle.cp_run.specs.declared.frame.Frame.{Frame}
 use Rattle.cp_run.specs.declared.frame.Frame.TheVariants as frame
 use Rattle.cp_run.specs.declared.run.Run.{Run}
-use Rattle.cp_run.specs.Shown.{Here, here, back, bound, instance_in, goal_shown, manner_shown, asking_shown, item_shown, goals_shown, rules_from, frames_shown, here_of, frames_of}
+use Rattle.cp_run.specs.Shown.{Here, here, back, bound, instance_in, goal_shown, manner_shown, asking_shown, item_shown, goals_shown, rules_from, frames_shown, here_of}
 use Rattle.cp_run.specs.Stands.{HasGoal, HasManner, IsSameItem, HasItem, HasItems, HasLists, IsMoment, FramesStand, Holds, Grows, IsPut}
-use Rattle.cp_run.proofs.ListLaws.{get_or-front, get_or-last, get_or-take}
+use Rattle.cp_run.proofs.ListLaws.{get_or-last, get_or-take}
 
 -- ---- lists that have grown
 

@@ -1,10 +1,9 @@
 -- A goal that is charged and run.
-use Rattle.std.proofs.Common.{◌≡◌, ℕ, suc, true, Some, None, Option, List, [], ◌∷◌, refl, sym, ◌∙◌, ap, subst}
-use Rattle.std.specs.Prelude.{is_some}
+use Rattle.std.proofs.Common.{◌≡◌, ℕ, suc, Some, None, Option, List, refl, sym, ◌∙◌, ap}
 use Rattle.cp_term.specs.declared.cell.Cell.{Cell}
 use Rattle.cp_term.specs.Substitution.{Substitution}
 use Rattle.cp_heap.specs.declared.reference.Ref.{Ref}
-use Rattle.cp_code.specs.Bodies.{Body, Cut, True, Fail, Both, Either, Choose, CallOf, CatchOf, ThrowOf, FindAll, Plain, two_bodies, three_bodies, body_of}
+use Rattle.cp_code.specs.Bodies.{Body, Cut, True, Fail, Both, Either, Choose, CallOf, CatchOf, ThrowOf, FindAll, Plain, two_bodies, three_bodies}
 use Rattle.cp_code.specs.Code.{Code}
 use Rattle.cp_code.specs.Programs.{or_fail}
 use Rattle.cp_code.specs.Tree as tree

@@ -78,6 +78,10 @@ abbrev pub clauses_frame : Code → Here → Moment → (pred from goal rest lev
 clauses_frame code h m pred from goal rest level =
     machine.Clauses (rules_from code pred from) (instance_in (back m h) goal) (goals_shown (back m h) rest) (bound (back m h)) m.mark.variables level
 
+-- other goals, as a frame that was pushed at a moment
+abbrev pub alternative_frame : Here → Moment → (goals level : ℕ) → machine.Frame
+alternative_frame h m goals level = machine.Alternative (goals_shown (back m h) goals) (bound (back m h)) m.mark.variables level
+
 -- the answers of a remote call from this one on, as a frame that was pushed at a moment
 abbrev pub answering_frame : Here → Moment → PredName → RemoteAnswer → (from goal rest level : ℕ) → machine.Frame
 answering_frame h m p a from goal rest level =

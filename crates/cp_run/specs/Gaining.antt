@@ -7,7 +7,6 @@ use Rattle.cp_code.specs.Code.{Code}
 use Rattle.cp_code.specs.Requests.{handed_out}
 use Rattle.cp_code.specs.Tree as tree
 use Rattle.cp_code.specs.Machine as machine
-use Rattle.cp_run.specs.declared.item.Item.{Item}
 use Rattle.cp_run.specs.declared.run.Run.{Run}
 use Rattle.cp_run.specs.Shown.{here_of, instance_in, moved}
 use Rattle.cp_run.specs.Entering.{IsExtended}

@@ -8,8 +8,6 @@ use Rattle.cp_term.specs.Substitution.{Substitution}
 use Rattle.cp_code.specs.Machine.{Move, body_move, item_move}
 use Rattle.cp_code.specs.Requests.{Asking}
 use Rattle.cp_code.specs.Tree as tree
-use Rattle.cp_control.specs.declared.control.Control.{Control}
-use Rattle.cp_control.specs.declared.control.Control.TheVariants as control
 use Rattle.cp_run.specs.declared.goal.Goal.{Goal}
 use Rattle.cp_run.specs.declared.item.Item.{Item}
 use Rattle.cp_run.specs.declared.item.Item.TheVariants as item
@@ -19,7 +17,7 @@ use Rattle.cp_run.specs.declared.run.Run.{Run}
 use Rattle.cp_control.specs.declared.seen.Seen.{Seen}
 use Rattle.cp_run.specs.declared.started.Started.{Started}
 use Rattle.cp_run.specs.declared.started.Started.TheVariants as started
-use Rattle.cp_control.specs.Control.{body_read, HasParts, IsNotWithin, is_of_parts}
+use Rattle.cp_control.specs.Control.{body_read, HasParts, is_of_parts}
 use Rattle.cp_run.specs.Shown.{here_of, goal_shown, item_shown, goals_shown, shown, moved}
 use Rattle.cp_run.specs.Stands.{HasManner, HasItem, Stands}
 

@@ -3,7 +3,7 @@ ghost use Rattle.cp_code.specs.Code.{Code};
 ghost use Rattle.cp_code.specs.Machine as machine;
 ghost use Rattle.cp_code.specs.Machine.{drop_to};
 ghost use Rattle.cp_run.specs.Shown.{back, bound, goals_shown, here_of, frames_shown, frames_of};
-ghost use Rattle.cp_run.specs.Entering.{answering_frame};
+ghost use Rattle.cp_run.specs.Entering.{alternative_frame, answering_frame};
 ghost use Rattle.cp_run.specs.Stands.{HasItem, IsMoment, FramesStand, Holds, IsPut, IsPushed, AreDropped, is_opened};
 
 use crate::frame::Frame;
@@ -97,6 +97,29 @@ impl Run {
         ensures pushed { OnOk result (IsPushed self.old self.new (λ code. machine.Alternative (goals_shown (here_of self.old) goals) (bound (here_of self.old)) self.old.heap.variables level)) }
     {
         let moment = self.moment();
+        self.frames.push(Frame::Alternative {
+            moment,
+            goals,
+            level,
+        })?;
+        Ok(())
+    }
+
+    /// Other goals are to be run when those in hand have no more to give, as things were at a moment.
+    pub fn push_alternative_at(
+        &mut self,
+        moment: Moment,
+        goals: u32,
+        level: u64,
+    ) -> Result<(), AllocError>
+        requires holds { Holds self.old }
+        requires moment { IsMoment moment (here_of self.old) }
+        requires goals { goals < moment.lists }
+        requires frames { FramesStand (back moment (here_of self.old)) (reverse self.old.frames.items) }
+        ensures holds { OnOk result (Holds self.new) }
+        ensures state { OnOk result (self.new ≡ record self.old { frames = self.new.frames }) }
+        ensures frames { OnOk result ((code : Code) → frames_of code self.new ≡ alternative_frame (here_of self.old) moment goals level ∷ frames_shown code (back moment (here_of self.old)) (reverse self.old.frames.items)) }
+    {
         self.frames.push(Frame::Alternative {
             moment,
             goals,

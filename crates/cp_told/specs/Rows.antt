@@ -12,7 +12,8 @@ use Rattle.cp_request.specs.declared.follows.Follows.TheVariants as follows
 use Rattle.cp_run.specs.declared.moment.Moment.{Moment}
 use Rattle.cp_run.specs.declared.point.Point.{Point}
 use Rattle.cp_run.specs.declared.run.Run.{Run}
-use Rattle.cp_run.specs.Shown.{Here, back, bound, here_of, goals_shown, point_shown, frames_shown, frames_of}
+use Rattle.cp_run.specs.Shown.{back, bound, here_of, goals_shown, point_shown, frames_shown, frames_of}
+use Rattle.cp_run.specs.Entering.{alternative_frame}
 use Rattle.cp_run.specs.Gaining.{Row}
 
 -- the terms of the goal stand as they were to be asked for; what was looked for once is the copy that was handed out
@@ -42,10 +43,6 @@ told_at code r p i = machine.point_told (point_shown code (here_of r) p) i r.uni
 -- the goals behind, where two terms unify
 abbrev pub one_row : (a b : List Cell) → Row
 one_row a b rest s next level = machine.runs_if (unify s a b) rest next level
-
--- other goals, as a frame that was pushed at a moment
-abbrev pub alternative_frame : Here → Moment → (goals level : ℕ) → machine.Frame
-alternative_frame h m goals level = machine.Alternative (goals_shown (back m h) goals) (bound (back m h)) m.mark.variables level
 
 -- a list of goals is run over other goals, which are to be run as things were at a moment
 abbrev pub with_alternative : Code → Run → Moment → (goals rest level : ℕ) → machine.State

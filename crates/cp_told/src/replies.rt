@@ -8,17 +8,17 @@ ghost use Rattle.cp_code.specs.Requests as requests;
 ghost use Rattle.cp_code.specs.Requests.{full_name, full_kind};
 ghost use Rattle.cp_code.specs.Tree.{AskFrom};
 ghost use Rattle.cp_code.specs.Machine as machine;
-ghost use Rattle.cp_run.specs.Shown.{back, bound, here_of, instance_in, manner_shown, asking_shown, goals_shown, frames_shown, frames_of, shown, moved};
+ghost use Rattle.cp_run.specs.Shown.{back, bound, here_of, instance_in, manner_shown, asking_shown, goals_shown, shown, moved};
 ghost use Rattle.cp_run.specs.Stands.{HasManner, IsMoment, FramesStand, Holds, Stands};
 ghost use Rattle.cp_run.specs.Entering.{IsExtended};
 ghost use Rattle.cp_run.specs.Gaining.{IsGained, raise_row};
-ghost use Rattle.cp_told.specs.Rows.{follows_shown, HasFollows, alternative_frame, with_alternative, one_row};
+ghost use Rattle.cp_told.specs.Rows.{follows_shown, HasFollows, with_alternative, one_row};
 
 use crate::drops::{drop_asking, drop_term};
 use cp_call::{FullBy, Reply};
 use cp_heap::Ref;
 use cp_request::{Asking, Follows, Manner, full_error, system_error};
-use cp_run::{Frame, Item, Moment, Point, Run};
+use cp_run::{Item, Moment, Point, Run};
 use cp_term::{PredName, Term, unifiable};
 use std::alloc::AllocError;
 
@@ -199,31 +199,8 @@ fn go_with_alternative(
     ensures moved { OnOk result ((code : Code) → shown code run.new ≡ with_alternative code run.old moment again rest level) }
     ensures stands { OnOk result (Stands run.new) }
 {
-    push_alternative_at(run, moment, again, level)?;
+    run.push_alternative_at(moment, again, level)?;
     run.go(Point::Runs { goals: rest, level });
-    Ok(())
-}
-
-/// Other goals are to be run when those in hand have no more to give, as things were at a moment.
-fn push_alternative_at(
-    run: &mut Run,
-    moment: Moment,
-    goals: u32,
-    level: u64,
-) -> Result<(), AllocError>
-    requires holds { Holds run.old }
-    requires moment { IsMoment moment (here_of run.old) }
-    requires goals { goals < moment.lists }
-    requires frames { FramesStand (back moment (here_of run.old)) (reverse run.old.frames.items) }
-    ensures holds { OnOk result (Holds run.new) }
-    ensures state { OnOk result (run.new ≡ record run.old { frames = run.new.frames }) }
-    ensures frames { OnOk result ((code : Code) → frames_of code run.new ≡ alternative_frame (here_of run.old) moment goals level ∷ frames_shown code (back moment (here_of run.old)) (reverse run.old.frames.items)) }
-{
-    run.frames.push(Frame::Alternative {
-        moment,
-        goals,
-        level,
-    })?;
     Ok(())
 }
 

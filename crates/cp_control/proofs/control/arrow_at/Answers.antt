@@ -1,4 +1,4 @@
-use Rattle.std.proofs.Common.{◌+◌, ◌≤◌, length, get_or, [], sym, ◌∙◌, ap, arith}
+use Rattle.std.proofs.Common.{◌+◌, ◌≤◌, length, sym, ◌∙◌, ap, arith}
 use Rattle.cp_code.specs.Bodies.{arrow_of}
 use Rattle.cp_control.specs.Control.{arrow_in, readings}
 use Rattle.cp_control.proofs.BodyLaws.{arrow-here, variable-arrow, integer-arrow, atom-arrow}

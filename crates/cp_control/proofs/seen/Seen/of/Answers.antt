@@ -1,4 +1,4 @@
-use Rattle.std.proofs.Common.{◌∙◌, refl, arith}
+use Rattle.std.proofs.Common.{◌∙◌, arith}
 use Rattle.cp_control.specs.Control.{body_at}
 use Rattle.cp_control.proofs.SeenLaws.{not-within, no-module, a-module}
 use Rattle.cp_control.proofs.seen.Seen.of.Goals as goal

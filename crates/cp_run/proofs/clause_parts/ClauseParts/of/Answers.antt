@@ -1,4 +1,4 @@
-use Rattle.std.proofs.Common.{◌≡◌, ◌+◌, ◌≤◌, true, length, sym, ◌∙◌, ap, arith}
+use Rattle.std.proofs.Common.{◌+◌, ◌≤◌, length, sym, ◌∙◌, ap, arith}
 use Rattle.cp_term.specs.declared.cell.Cell.TheVariants.{Func}
 use Rattle.cp_code.specs.Clauses.{is_neck}
 use Rattle.cp_run.proofs.ClauseLaws.{rule-head, rule-body}

@@ -1,5 +1,5 @@
-use Rattle.std.proofs.Common.{◌≡◌, ◌-◌, suc, take, sym, ◌∙◌, ap, arith}
-use Rattle.cp_run.specs.Lists.{lists_of, AreLinked}
+use Rattle.std.proofs.Common.{◌≡◌, ◌-◌, suc, take, ◌∙◌, ap, arith}
+use Rattle.cp_run.specs.Lists.{lists_of}
 use Rattle.cp_run.proofs.ListLaws.{AreLinked-take, lists-take}
 use Rattle.cp_run.proofs.goals.Goals.cut_to.Goals as goal
 

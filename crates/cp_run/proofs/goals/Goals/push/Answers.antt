@@ -1,5 +1,5 @@
-use Rattle.std.proofs.Common.{◌≡◌, ◌++◌, [], ◌∷◌, suc, length, get_or, sym, ◌∙◌, ap, arith, length-append}
-use Rattle.cp_run.specs.Lists.{lists_of, AreLinked}
+use Rattle.std.proofs.Common.{◌≡◌, ◌++◌, [], ◌∷◌, suc, length, get_or, sym, ◌∙◌, ap, arith}
+use Rattle.cp_run.specs.Lists.{lists_of}
 use Rattle.cp_run.proofs.ListLaws.{AreLinked-push, lists-push, length-lists}
 use Rattle.cp_run.proofs.goals.Goals.push.Goals as goal
 

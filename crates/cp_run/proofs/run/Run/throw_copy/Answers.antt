@@ -1,7 +1,7 @@
 use Rattle.std.proofs.Common.{Err, ◌∙◌, sym, ap}
 use Rattle.cp_code.specs.Requests.{full_name}
 use Rattle.cp_code.specs.Machine as machine
-use Rattle.cp_run.specs.Shown.{here_of, bound, goals_shown, frames_of, moved, instance_in}
+use Rattle.cp_run.specs.Shown.{here_of, moved, instance_in}
 use Rattle.cp_run.proofs.GainLaws.{small-is-handed, large-is-not}
 use Rattle.cp_run.proofs.run.Run.throw_copy.Goals as goal
 
