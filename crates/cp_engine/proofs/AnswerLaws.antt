@@ -1,18 +1,14 @@
 -- An answer that is handed out.
-use Rattle.std.proofs.Common.{◌≡◌, ℕ, ◌<◌, ◌≤◌, List, [], length, refl, sym, ◌∙◌, ap, subst}
+use Rattle.std.proofs.Common.{◌≡◌, ℕ, ◌<◌, ◌≤◌, List, [], length, sym, ◌∙◌, ap}
 use Rattle.std.specs.Prelude.{Result, Ok, Err, codes}
 use Rattle.cp_term.specs.declared.cell.Cell.{Cell}
 use Rattle.cp_term.specs.Numbering.{canon}
-use Rattle.cp_term.specs.Preorder.{arguments}
 use Rattle.cp_term.specs.Substitution.{apply}
 use Rattle.cp_goal.specs.Errors.{resource_error}
 use Rattle.cp_code.specs.declared.program.Program.{Program}
-use Rattle.cp_code.specs.Bodies.{seen_from}
 use Rattle.cp_code.specs.Code.{Code}
 use Rattle.cp_code.specs.Programs.{code_of}
 use Rattle.cp_code.specs.Requests.{full_name, handed_out}
-use Rattle.cp_code.specs.Tree as tree
-use Rattle.cp_code.specs.Tree.{without_module, goal_context}
 use Rattle.cp_code.specs.Machine as machine
 use Rattle.cp_run.specs.declared.point.Point.TheVariants as point
 use Rattle.cp_run.specs.declared.run.Run.{Run}

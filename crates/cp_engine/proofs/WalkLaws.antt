@@ -1,5 +1,5 @@
 -- A run stands for what is still to come of its goal.
-use Rattle.std.proofs.Common.{◌≡◌, ℕ, List, [], ◌∷◌, ◌++◌, map, reverse, get_or, refl, sym, ◌∙◌, ap, subst, append_assoc}
+use Rattle.std.proofs.Common.{◌≡◌, ℕ, List, [], ◌∷◌, ◌++◌, map, reverse, get_or, sym, ◌∙◌, ap, subst, append_assoc}
 use Rattle.std.specs.Prelude.{Some, codes}
 use Rattle.cp_term.specs.declared.cell.Cell.{Cell}
 use Rattle.cp_term.specs.Numbering.{next_variable}
@@ -22,7 +22,7 @@ use Rattle.cp_run.specs.declared.item.Item.{Item}
 use Rattle.cp_run.specs.declared.run.Run.{Run}
 use Rattle.cp_run.specs.Shown.{here_of, bound, item_shown, goals_shown, frames_shown, frames_of, shown, moved}
 use Rattle.cp_run.specs.Stands.{Stands}
-use Rattle.cp_engine.specs.Walking.{IsWalking, IsReady}
+use Rattle.cp_engine.specs.Walking.{IsWalking}
 
 pub moved-walks : MovesKeepTheMeaning → (c : Code) (g : List Cell) (past : List Input) (r r' : Run) → IsWalking c g past r → Stands r' → shown c r' ≡ machine.move c g (shown c r) → IsWalking c g past r'
 moved-walks law c g past r r' w stands e =

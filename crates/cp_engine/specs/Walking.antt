@@ -2,12 +2,12 @@
 use Rattle.std.specs.Prelude.{◌≡◌, ℕ, Bool, false, List, ◌++◌, Some}
 use Rattle.cp_term.specs.declared.cell.Cell.{Cell}
 use Rattle.cp_term.specs.Preorder.{arguments}
-use Rattle.cp_term.specs.Substitution.{apply, Substitution}
+use Rattle.cp_term.specs.Substitution.{apply}
 use Rattle.cp_call.specs.declared.item.Input.{Input}
 use Rattle.cp_call.specs.declared.item.Next.{Next}
 use Rattle.cp_code.specs.declared.by_tree.ProgramCode.{ProgramCode}
 use Rattle.cp_code.specs.declared.program.Program.{Program}
-use Rattle.cp_code.specs.Bodies.{Body, seen_from}
+use Rattle.cp_code.specs.Bodies.{seen_from}
 use Rattle.cp_code.specs.Code.{Code}
 use Rattle.cp_code.specs.Programs.{code_of}
 use Rattle.cp_code.specs.Requests.{full_name, handed_out}

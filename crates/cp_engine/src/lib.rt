@@ -11,3 +11,6 @@ mod started;
 mod walks;
 
 pub use engine::Engine;
+
+#[cfg(test)]
+mod tests;

@@ -1,4 +1,4 @@
-use Rattle.std.proofs.Common.{sym, ◌∙◌, ap}
+use Rattle.std.proofs.Common.{◌∙◌}
 use Rattle.cp_code.specs.Programs.{code_of}
 use Rattle.cp_engine.proofs.DueLaws.{due-moved}
 use Rattle.cp_engine.proofs.due.run_due.Goals as due

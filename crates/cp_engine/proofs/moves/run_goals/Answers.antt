@@ -1,4 +1,4 @@
-use Rattle.std.proofs.Common.{◌≡◌, sym, ◌∙◌, ap, subst, map, get_or, []}
+use Rattle.std.proofs.Common.{◌∙◌, ap, subst, map, get_or, []}
 use Rattle.std.proofs.Common.{rules, w64}
 use Rattle.std.proofs.lemmas.Int.{to_z-of_z}
 use Rattle.cp_goal.specs.Builtins.{context}
@@ -8,7 +8,7 @@ use Rattle.cp_code.specs.Tree as tree
 use Rattle.cp_props.specs.Checks.{check_shown}
 use Rattle.cp_enter.specs.Rows.{copy_row}
 use Rattle.cp_run.specs.declared.run.Run.{Run}
-use Rattle.cp_run.specs.Shown.{asking_shown, item_shown, moved}
+use Rattle.cp_run.specs.Shown.{asking_shown, moved}
 use Rattle.cp_run.specs.Starting.{IsNextOf, again_row}
 use Rattle.cp_engine.specs.Walking.{answer_row}
 use Rattle.cp_engine.proofs.MoveLaws.{item_row, first-moved, none-moved, due-next}

@@ -1,4 +1,4 @@
-use Rattle.std.proofs.Common.{◌≡◌, drop, Ok, sym, ◌∙◌, ap}
+use Rattle.std.proofs.Common.{◌≡◌, drop, sym, ◌∙◌, ap}
 use Rattle.cp_term.specs.TermOf.{term_of}
 use Rattle.cp_engine.proofs.StartedLaws.{rest-all, inner-is}
 use Rattle.cp_engine.proofs.started.inner.Goals as goal

@@ -2,8 +2,7 @@ use Rattle.std.proofs.Common.{◌≡◌, ◌∙◌, ap, arith}
 use Rattle.cp_term.specs.Numbering.{fresh, next_variable}
 use Rattle.cp_term.proofs.lemmas.NumberingLaws.{fresh-zero}
 use Rattle.cp_code.specs.Requests.{full_name}
-use Rattle.cp_heap.specs.State.{State, terms_at}
-use Rattle.cp_heap.specs.declared.reference.Ref.{Ref}
+use Rattle.cp_heap.specs.State.{terms_at}
 use Rattle.cp_run.specs.declared.run.Run.{Run}
 use Rattle.cp_engine.specs.Walking.{code}
 use Rattle.cp_engine.proofs.WalkLaws.{first-shown, first-walks}
