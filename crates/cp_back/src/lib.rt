@@ -10,6 +10,3 @@ mod unifying;
 
 pub use backtracking::back;
 pub use throwing::throw_back;
-
-#[cfg(test)]
-mod tests;

@@ -6,6 +6,3 @@ mod seen;
 
 pub use control::Control;
 pub use seen::Seen;
-
-#[cfg(test)]
-mod tests;

@@ -10,6 +10,3 @@ mod raising;
 pub use calling::{run_call, run_catch, run_throw};
 pub use entering::enter;
 pub use finding::{run_copy, run_find_all};
-
-#[cfg(test)]
-mod tests;

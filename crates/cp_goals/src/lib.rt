@@ -15,6 +15,3 @@ pub use ask::ask_or_raise;
 pub use language_goal::LanguageGoal;
 pub use running::run_builtin;
 pub use style::Style;
-
-#[cfg(test)]
-mod tests;

@@ -25,6 +25,3 @@ pub use check::{Check, Checks, copy_checks};
 pub use formula::holds;
 pub use property::has;
 pub use tested::Tested;
-
-#[cfg(test)]
-mod tests;

@@ -34,6 +34,3 @@ pub use post::PostGoal;
 pub use refusal::Refusal;
 pub use remote::{RemoteAnswer, RemoteError, RemoteFollows};
 pub use seen_goal::SeenGoal;
-
-#[cfg(test)]
-mod tests;

@@ -30,6 +30,3 @@ pub use next::Next;
 pub use point::{Catchers, Point};
 pub use run::Run;
 pub use started::Started;
-
-#[cfg(test)]
-mod tests;

@@ -8,6 +8,3 @@ mod replies;
 
 pub use inputs::tell;
 pub use questions::ready;
-
-#[cfg(test)]
-mod tests;
