@@ -1,5 +1,6 @@
 ghost use Rattle.std.specs.Prelude.{◌≡◌, ℕ, ◌<◌, ◌∷◌, [], cond, None, Some, length, get_or, reverse, IfOk, OnOk};
 ghost use Rattle.cp_term.specs.Unification.{unify as unify_by};
+ghost use Rattle.cp_heap.specs.State.{IsLive};
 ghost use Rattle.cp_code.specs.Code.{Code};
 ghost use Rattle.cp_code.specs.Programs.{clause_of, code_of};
 ghost use Rattle.cp_run.specs.Shown.{back, bound, instance_in, here_of, rules_from, frames_shown, frames_of, shown, moved};
@@ -16,8 +17,9 @@ use crate::point::Point;
 use crate::program_clauses::clause_at;
 use crate::run::Run;
 use cp_code::{Clause, Program};
-use cp_heap::Ref;
+use cp_heap::{Mark, Ref};
 use cp_term::Name;
+use cp_unify::unify_since;
 use std::alloc::AllocError;
 
 impl Run {
@@ -41,8 +43,22 @@ impl Run {
         ensures extended { OnOk result (IsExtended self.old self.new) }
         ensures kept { OnOk result (self.new.heap ≡ record self.old.heap { trail = self.new.heap.trail }) }
     {
-        let _mark = self.heap.mark();
-        let unified = cp_unify::unify(self.alloc, &mut self.heap, a, b)?;
+        let mark = self.heap.mark();
+        self.unify_since(mark, a, b)
+    }
+
+    /// The same. A variable that was made after the mark is bound to a term from before it without a walk along the term.
+    pub fn unify_since(&mut self, mark: Mark, a: Ref, b: Ref) -> Result<bool, AllocError>
+        requires holds { Holds self.old }
+        requires mark { IsLive mark self.old.heap }
+        requires a { a.at < length self.old.heap.terms }
+        requires b { b.at < length self.old.heap.terms }
+        ensures unified { IfOk result (λ unified. unify_by (bound (here_of self.old)) (instance_in (here_of self.old) a.at) (get_or self.old.heap.terms b.at []) ≡ cond unified (Some (bound (here_of self.new))) None) }
+        ensures extended { OnOk result (IsExtended self.old self.new) }
+        ensures kept { OnOk result (self.new.heap ≡ record self.old.heap { trail = self.new.heap.trail }) }
+    {
+        let _now = self.heap.mark();
+        let unified = unify_since(self.alloc, &mut self.heap, mark, a, b)?;
         Ok(unified)
     }
 
@@ -149,7 +165,7 @@ impl Run {
     {
         let moment = self.moment();
         let parts = self.put_clause(clause)?;
-        let unified = self.unify(goal, parts.head)?;
+        let unified = self.unify_since(moment.mark, goal, parts.head)?;
         if unified {
             self.enter_clause(
                 &clause.module,

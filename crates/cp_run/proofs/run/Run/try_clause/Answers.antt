@@ -4,7 +4,15 @@ use Rattle.cp_heap.specs.State.{State}
 use Rattle.cp_code.specs.Clauses.{body_term}
 use Rattle.cp_run.specs.Entering.{HasBody}
 use Rattle.cp_run.proofs.EnteringLaws.{body-good, entered-is}
+use Rattle.cp_run.proofs.GrowthLaws.{moment-grow, moment-live}
+use Rattle.cp_run.specs.Shown.{here_of}
 use Rattle.cp_run.proofs.run.Run.try_clause.Goals as goal
+
+pub unify_since-requires-clause-mark : goal.unify_since-requires-clause-mark
+unify_since-requires-clause-mark c =
+    let r1 = c.put_clause.new.self in
+    moment-live c.moment-moment.result r1.heap r1.goals
+    (moment-grow c.moment-moment.result (here_of c.args.self.now) (here_of r1) c.moment-moment.ensures.now c.in_ok-parts.ensures.extended.grows)
 
 pub enter_clause-requires-clause-body : goal.enter_clause-requires-clause-body
 enter_clause-requires-clause-body c =
@@ -15,6 +23,6 @@ enter_clause-requires-clause-body c =
 pub returns-then-unified-clause-moved : goal.returns-then-unified-clause-moved
 returns-then-unified-clause-moved c code =
     c.in_ok-enter_clause.ensures.entered code
-    ∙ entered-is code c.args.self.now c.put_clause.new.self c.unify.new.self c.moment-moment.result c.args.clause.now c.in_ok-parts.parts c.in_ok-unified.unified c.args.pred c.args.from c.args.goal.at c.args.rest c.args.level
+    ∙ entered-is code c.args.self.now c.put_clause.new.self c.unify_since.new.self c.moment-moment.result c.args.clause.now c.in_ok-parts.parts c.in_ok-unified.unified c.args.pred c.args.from c.args.goal.at c.args.rest c.args.level
     c.in_ok-parts.ensures.clause c.in_ok-parts.ensures.extended c.in_ok-unified.ensures.extended c.in_ok-unified.ensures.kept c.in_ok-unified.ensures.unified c.if-unified.true
     c.moment-moment.ensures.now c.moment-moment.ensures.whole c.requires.goal c.requires.rest c.requires.body
