@@ -12,10 +12,19 @@ before (Some x) (Some xs) = Some (x ∷ xs)
 before (Some x) None = None
 before None xs = None
 
+-- the functor of a list
+abbrev pub is_dot : Cell → Bool
+is_dot (Func f k) = is f "." && nat_eq k 2
+is_dot c = false
+
 -- the list of no elements
 abbrev pub is_empty_list : List Cell → Bool
 is_empty_list (Atom a ∷ []) = is a "[]"
 is_empty_list cells = false
+
+-- the end of a list whose elements were read
+abbrev pub at_end : {X : Type 0} → List Cell → Option (List X)
+at_end cells = if is_empty_list cells then Some [] else None
 
 -- ---- predicates
 
@@ -26,8 +35,8 @@ indicator c d e = None
 
 -- a list of p/n
 abbrev pub indicators : List Cell → Option (List Indicator)
-indicators (Func f (suc (suc zero)) ∷ c ∷ d ∷ e ∷ rest) = if is f "." then before (indicator c d e) (indicators rest) else None
-indicators cells = if is_empty_list cells then Some [] else None
+indicators (dot ∷ c ∷ d ∷ e ∷ rest) = if is_dot dot then before (indicator c d e) (indicators rest) else None
+indicators cells = at_end cells
 
 abbrev pub is_comma : Cell → Bool
 is_comma (Func f k) = is f "," && nat_eq k 2
@@ -42,22 +51,32 @@ joined (c ∷ d ∷ e ∷ rest) = if is_comma c then joined (d ∷ e ∷ rest) e
 
 -- ---- names
 
+abbrev pub name : Cell → Option (List ℕ)
+name (Atom a) = Some a
+name c = None
+
 -- a list of atoms
 abbrev pub names : List Cell → Option (List (List ℕ))
-names (Func f (suc (suc zero)) ∷ Atom a ∷ rest) = if is f "." then before (Some a) (names rest) else None
-names cells = if is_empty_list cells then Some [] else None
+names (dot ∷ c ∷ rest) = if is_dot dot then before (name c) (names rest) else None
+names cells = at_end cells
 
 -- an atom
 abbrev pub one_name : List Cell → Option (List (List ℕ))
 one_name (Atom a ∷ []) = Some (a ∷ [])
 one_name cells = None
 
--- a list of packages
-abbrev pub are_packages : List Cell → Bool
-are_packages (Func f (suc (suc zero)) ∷ Atom a ∷ rest) = is f "." && is_package a && are_packages rest
-are_packages cells = is_empty_list cells
+-- ---- packages
+
+abbrev pub is_package_name : Cell → Bool
+is_package_name (Atom a) = is_package a
+is_package_name c = false
 
 -- one package
 abbrev pub is_one_package : List Cell → Bool
-is_one_package (Atom a ∷ []) = is_package a
+is_one_package (c ∷ []) = is_package_name c
 is_one_package cells = false
+
+-- a list of packages
+abbrev pub are_packages : List Cell → Bool
+are_packages (dot ∷ c ∷ rest) = is_dot dot && is_package_name c && are_packages rest
+are_packages cells = is_empty_list cells

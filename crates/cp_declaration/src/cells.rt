@@ -1,6 +1,6 @@
 ghost use Rattle.std.specs.Prelude.{◌≡◌, ◌+◌, ◌^◌, ◌<◌, ◌≤◌, [], ◌∷◌, length, take, drop, MatchOption};
 ghost use Rattle.cp_term.specs.Preorder.{take_terms, drop_terms};
-ghost use Rattle.cp_declaration.specs.Lists.{is_comma, is_empty_list};
+ghost use Rattle.cp_declaration.specs.Lists.{is_comma, is_dot, is_empty_list};
 
 use cp_term::Cell;
 
@@ -35,6 +35,18 @@ pub(crate) fn is_empty_list(cells: &[Cell]) -> bool
     match cells {
         [Cell::Atom(name)] => name.bytes() == b"[]".as_slice(),
         _ => false,
+    }
+}
+
+/// Whether it is the functor of a list.
+pub(crate) fn is_dot(cell: &Cell) -> bool
+    ensures { result ≡ is_dot cell.now }
+{
+    match cell {
+        Cell::Func(name, arity) => name.bytes() == b".".as_slice() && *arity == 2,
+        Cell::Var(_) => false,
+        Cell::Int(_) => false,
+        Cell::Atom(_) => false,
     }
 }
 
