@@ -1,8 +1,7 @@
 use crate::indicator::Indicators;
+use crate::names::Names;
 use cp_list::ListOf;
 use cp_term::Name;
-
-pub type Names = ListOf<Name>;
 
 /// Which arguments of a predicate are goal arguments, one mark for each argument from the first.
 pub type Marks = ListOf<bool>;

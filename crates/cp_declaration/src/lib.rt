@@ -4,7 +4,9 @@
 mod cells;
 mod declaration;
 mod indicator;
+mod names;
 mod words;
 
-pub use declaration::{Declaration, Marks, Names};
+pub use declaration::{Declaration, Marks};
 pub use indicator::{Indicator, Indicators};
+pub use names::Names;
