@@ -19,10 +19,13 @@ module_name (Atom m ∷ []) = Some (Some m)
 module_name (Var v ∷ []) = Some None
 module_name cells = None
 
+abbrev pub is_variable : List Cell → Bool
+is_variable (Var v ∷ []) = true
+is_variable cells = false
+
 -- the predicates that it exports; a variable stands for each that it defines
 abbrev pub exports : List Cell → Option (Option (List Indicator))
-exports (Var v ∷ []) = Some None
-exports cells = option_map (λ preds. Some preds) (indicators cells)
+exports cells = if is_variable cells then Some None else option_map (λ preds. Some preds) (indicators cells)
 
 abbrev pub header : Option (Option (List ℕ)) → Option (Option (List Indicator)) → Option Declaration
 header (Some m) (Some preds) = Some (Module m preds)

@@ -1,10 +1,7 @@
 use crate::indicator::Indicators;
+use crate::marks::Marks;
 use crate::names::Names;
-use cp_list::ListOf;
 use cp_term::Name;
-
-/// Which arguments of a predicate are goal arguments, one mark for each argument from the first.
-pub type Marks = ListOf<bool>;
 
 /// What a declaration `:- D` of a file says.
 #[derive(Debug, Drop)]

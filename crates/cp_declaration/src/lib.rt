@@ -3,10 +3,18 @@
 
 mod cells;
 mod declaration;
+mod header;
+mod imports;
 mod indicator;
+mod marks;
 mod names;
+mod operators;
+mod preds;
+mod said;
 mod words;
 
-pub use declaration::{Declaration, Marks};
+pub use declaration::Declaration;
 pub use indicator::{Indicator, Indicators};
+pub use marks::Marks;
 pub use names::Names;
+pub use said::{declaration_of, is_declaration};
