@@ -18,3 +18,6 @@ pub use indicator::{Indicator, Indicators};
 pub use marks::Marks;
 pub use names::Names;
 pub use said::{declaration_of, is_declaration};
+
+#[cfg(test)]
+mod tests;

@@ -39,11 +39,7 @@ pub(crate) fn meta_predicate(
     }
 }
 
-fn marked(
-    alloc: Global,
-    first: &Cell,
-    args: &[Cell],
-) -> Result<Option<Declaration>, AllocError>
+fn marked(alloc: Global, first: &Cell, args: &[Cell]) -> Result<Option<Declaration>, AllocError>
     requires { length args.now < 2 ^ 32 }
     ensures { IfOk result (λ said. said ≡ meta_predicate (first.now ∷ args.now)) }
 {
