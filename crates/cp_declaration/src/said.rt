@@ -1,5 +1,4 @@
 ghost use Rattle.std.specs.Prelude.{◌≡◌, ◌<◌, ◌^◌, length, IfOk};
-ghost use Rattle.cp_term.specs.Preorder.{take_terms, drop_terms};
 ghost use Rattle.cp_declaration.specs.Declarations.{begins_with_kind, is_assertion, of_assertions, of_predicates, of_one, of_two, of_three, said, is_declaration, declaration};
 
 use crate::cells::split_term;

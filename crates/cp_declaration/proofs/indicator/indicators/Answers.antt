@@ -1,4 +1,4 @@
-use Rattle.std.proofs.Common.{◌≡◌, sym, ◌∙◌}
+use Rattle.std.proofs.Common.{sym, ◌∙◌}
 use Rattle.cp_declaration.specs.Lists.{indicator, indicators}
 use Rattle.cp_declaration.proofs.Found.{found-more}
 use Rattle.cp_declaration.proofs.indicator.indicators.Goals as goal

@@ -1,4 +1,4 @@
-use Rattle.std.proofs.Common.{◌≡◌, sym, ◌∙◌, ap}
+use Rattle.std.proofs.Common.{sym, ◌∙◌, ap}
 use Rattle.cp_declaration.specs.Lists.{indicator, joined}
 use Rattle.cp_declaration.proofs.Found.{found-more}
 use Rattle.cp_declaration.proofs.Walks.{joined-item}
