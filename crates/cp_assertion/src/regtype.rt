@@ -25,3 +25,18 @@ pub fn add_regtype(
 {
     Err(TypeError::NoMemory)
 }
+
+/// Whether the rules of regular types admit a clause as one of the type of this name.
+pub fn is_regular(
+    alloc: Global,
+    types: &Types,
+    name: &Name,
+    clause: &Clause,
+) -> Result<bool, AllocError>
+    ensures { IfOk result (λ r. r ≡ is_regular (is_type_of types.now) (is_earlier_of types.now) name.now clause.now.whole) }
+{
+    match TypeUses::of(alloc, name, clause)? {
+        Some(uses) => Ok(uses.are_met(types)),
+        None => Ok(false),
+    }
+}

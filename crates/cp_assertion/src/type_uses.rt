@@ -1,8 +1,9 @@
 ghost use Rattle.std.specs.Prelude.{◌≡◌, Some, IfOk};
 ghost use Rattle.cp_assertion.specs.Names.{is_type_of};
-ghost use Rattle.cp_assertion.specs.RegularTypes.{uses, are_met, is_earlier_of};
+ghost use Rattle.cp_assertion.specs.RegularTypes.{uses, are_met, is_link, is_earlier_of};
 
-use cp_code::{Clause, Names, Types};
+use crate::names::{is_of_language, is_property};
+use cp_code::{Clause, Names, TypeRow, Types};
 use cp_term::Name;
 use std::alloc::{AllocError, Global};
 
@@ -30,4 +31,21 @@ impl TypeUses {
     {
         self.names.as_slice().iter().all(|name| is_property(types, name)) && is_link(types, &self.link)
     }
+}
+
+fn is_link(types: &Types, link: &Option<Name>) -> bool
+    ensures { result ≡ is_link (is_earlier_of types.now) link.now }
+{
+    match link {
+        Some(name) => is_of_language(name) || is_earlier(types.as_slice(), name.bytes()),
+        None => true,
+    }
+}
+
+fn is_earlier(types: &[TypeRow], name: &[u8]) -> bool
+    ensures { result ≡ is_earlier_of types.now name.now }
+{
+    types
+        .iter()
+        .any(|row| row.name.bytes() == name && !row.clauses.is_empty())
 }
