@@ -270,6 +270,10 @@ draft_shown d = record {
   after = option_map prop_of d.after;
 }
 
+abbrev pub drafted_shown : Option drafts.Draft → Drafted
+drafted_shown None = NoHead
+drafted_shown (Some d) = IsDraft (draft_shown d)
+
 abbrev pub shown : code.Assertion → Assertion
 shown a = record {
   status = a.status;

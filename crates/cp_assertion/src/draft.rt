@@ -4,7 +4,7 @@ ghost use Rattle.cp_code.specs.Programs.{prop_of};
 ghost use Rattle.cp_code.specs.Properties.{Prop as PropOf};
 ghost use Rattle.cp_assertion.specs.Names.{is_type_of};
 ghost use Rattle.cp_assertion.specs.Formulas.{is_known, SpeaksOf};
-ghost use Rattle.cp_assertion.specs.Assertions.{drafted, drafted_form, form_of, formula_or_always, behind_infix, draft_shown, are_known, is_known_formula, settled_draft, shown, number_after, IsDraft, NoHead, IsDraftRefusal, IsRefusal, Reads, IsPlaced, FormulaSpeaksOf, DraftSpeaksOfArguments, SpeaksOfArguments};
+ghost use Rattle.cp_assertion.specs.Assertions.{drafted, drafted_form, form_of, formula_or_always, behind_infix, draft_shown, drafted_shown, are_known, is_known_formula, settled_draft, shown, number_after, IsDraft, NoHead, IsDraftRefusal, IsRefusal, Reads, IsPlaced, FormulaSpeaksOf, DraftSpeaksOfArguments, SpeaksOfArguments};
 
 use crate::assertion_error::AssertionError;
 use crate::declared::Declared;
@@ -39,7 +39,41 @@ impl Draft {
         ensures err { IfErr result (λ e. IsDraftRefusal (drafted term.now) e) }
         ensures arguments { IfOk result (λ d. DraftSpeaksOfArguments (draft_shown d)) }
     {
-        Err(AssertionError::NoMemory)
+        let Some(declared) = Declared::of(term.cells()) else {
+            return Err(AssertionError::NotAssertion);
+        };
+        match Draft::of_body(alloc, declared.status, declared.kind, declared.body)? {
+            Some(draft) => Ok(draft),
+            None => Err(AssertionError::BadHead),
+        }
+    }
+
+    /// The same by the body of the assertion; None where its head is none.
+    fn of_body(
+        alloc: Global,
+        status: Status,
+        kind: Kind,
+        body: &[Cell],
+    ) -> Result<Option<Draft>, AllocError>
+        requires { length body.now < 2 ^ 32 }
+        ensures { IfOk result (λ d. drafted_form (record { status = status; kind = kind; body = body.now }) (form_of body.now) ≡ drafted_shown d) }
+    {
+        let exit = before_infix(body, b"#");
+        let call = before_infix(exit, b"=>");
+        let Some(head) = Head::of(before_infix(before_infix(call, b":"), b"+")) else {
+            return Ok(None);
+        };
+        let name = head.name.clone()?;
+        let before = formula_behind(alloc, call, b":", head.arity)?;
+        let after = formula_behind(alloc, exit, b"=>", head.arity)?;
+        Ok(Some(Draft {
+            status,
+            kind,
+            name,
+            arity: head.arity,
+            before,
+            after,
+        }))
     }
 
     /// Whether all names in its formulas are those of properties. It searches the list of types once for each name.
@@ -60,11 +94,36 @@ impl Draft {
         earlier: u32,
     ) -> Result<Assertion, AssertionError>
         ensures ok { IfOk result (λ a. settled_draft standing known (draft_shown self) ≡ Reads (shown a)) }
-        ensures placed { IfOk result (λ a. IsPlaced module line earlier a) }
+        ensures placed { IfOk result (λ a. IsPlaced «module» line earlier a) }
         ensures err { IfErr result (λ e. IsRefusal (settled_draft standing known (draft_shown self)) e) }
         ensures arguments { DraftSpeaksOfArguments (draft_shown self) → IfOk result (λ a. SpeaksOfArguments a) }
     {
-        Err(AssertionError::NoMemory)
+        if standing == Standing::NotDefined {
+            return Err(AssertionError::BadHead);
+        }
+        if !known {
+            return Err(AssertionError::BadProperty);
+        }
+        let number = number_after(self.status, earlier)?;
+        let (Some(before), Some(after)) = (self.before, self.after) else {
+            return Err(AssertionError::BadProperty);
+        };
+        if standing == Standing::Shared {
+            return Err(AssertionError::OnShared);
+        }
+        Ok(Assertion {
+            pred: PredName {
+                module,
+                name: self.name,
+                arity: self.arity,
+            },
+            number,
+            kind: self.kind,
+            status: self.status,
+            before,
+            after,
+            line,
+        })
     }
 }
 
@@ -86,5 +145,32 @@ fn is_known(prop: &Prop, types: &Types) -> bool
         Prop::Both(first, second) => is_known(first, types) && is_known(second, types),
         Prop::Either(first, second) => is_known(first, types) && is_known(second, types),
         Prop::Always => true,
+    }
+}
+
+/// The formula behind the infix operator `op`; one that is left out holds.
+fn formula_behind(
+    alloc: Global,
+    cells: &[Cell],
+    op: &[u8],
+    arity: u16,
+) -> Result<Option<Prop>, AllocError>
+    requires { length cells.now < 2 ^ 32 }
+    ensures { IfOk result (λ p. option_map prop_of p ≡ formula_or_always arity (behind_infix op.now cells.now)) }
+{
+    match behind_infix(cells, op) {
+        Some(cells) => formula(alloc, before_infix(cells, b"+"), arity),
+        None => Ok(Some(Prop::Always)),
+    }
+}
+
+/// The number of an assertion of this status after so many of its predicate that are tested.
+fn number_after(status: Status, earlier: u32) -> Result<u32, AllocError>
+    ensures { IfOk result (λ n. n ≡ number_after status earlier) }
+{
+    if status == Status::Check {
+        earlier.checked_add(1).ok_or(AllocError)
+    } else {
+        Ok(0)
     }
 }

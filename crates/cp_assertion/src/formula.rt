@@ -108,7 +108,15 @@ fn taken_two(
 fn taken_away(parts: &mut Vec<Part>, count: u16)
     ensures { stack_shown parts.new.items ≡ drop count (stack_shown parts.old.items) }
 {
-    'parts: for _part in 0..count {
-        let _ = parts.pop();
+    let mut taken: u16 = 0;
+    'taking: while taken < count {
+        take_away(parts);
+        taken += 1;
     }
+}
+
+fn take_away(parts: &mut Vec<Part>)
+    ensures { stack_shown parts.new.items ≡ drop 1 (stack_shown parts.old.items) }
+{
+    let _ = parts.pop();
 }

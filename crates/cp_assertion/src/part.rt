@@ -2,7 +2,7 @@ ghost use Rattle.std.specs.Prelude.{◌≡◌, ◌<◌, IfOk};
 ghost use Rattle.std.specs.Option.{option_map};
 ghost use Rattle.cp_code.specs.Programs.{prop_of};
 ghost use Rattle.cp_code.specs.Properties as properties;
-ghost use Rattle.cp_assertion.specs.Formulas.{part_shown, formula_of, joined, with_next, times, of_argument, property_part, list_part, binary_part};
+ghost use Rattle.cp_assertion.specs.Formulas.{Variable, Positions, part_shown, formula_of, joined, with_next, times, of_argument, property_part, list_part, binary_part};
 
 use cp_code::Prop;
 use cp_term::Name;
@@ -136,14 +136,36 @@ fn either_props(alloc: Global, first: Prop, second: Prop) -> Result<Prop, AllocE
 fn times(alloc: Global, left: Part, right: Part, arity: u16) -> Result<Part, AllocError>
     ensures { IfOk result (λ p. part_shown p ≡ times arity (part_shown left) (part_shown right)) }
 {
-    match (left, right) {
-        (Part::Word(first), Part::Word(name)) => {
-            with_next(alloc, 1, Prop::Of { name: first, arg: 0 }, name, arity)
+    match left {
+        Part::Word(first) => {
+            let prop = Prop::Of {
+                name: first,
+                arg: 0,
+            };
+            times_word(alloc, 1, prop, right, arity)
         }
-        (Part::Positions(count, prop), Part::Word(name)) => {
-            with_next(alloc, count, prop, name, arity)
-        }
-        _ => Ok(Part::Other),
+        Part::Positions(count, prop) => times_word(alloc, count, prop, right, arity),
+        Part::Variable(_) => Ok(Part::Other),
+        Part::Formula(_) => Ok(Part::Other),
+        Part::Other => Ok(Part::Other),
+    }
+}
+
+fn times_word(
+    alloc: Global,
+    count: u16,
+    prop: Prop,
+    right: Part,
+    arity: u16,
+) -> Result<Part, AllocError>
+    ensures { IfOk result (λ p. part_shown p ≡ times arity (Positions count (prop_of prop)) (part_shown right)) }
+{
+    match right {
+        Part::Word(name) => with_next(alloc, count, prop, name, arity),
+        Part::Variable(_) => Ok(Part::Other),
+        Part::Positions(_, _) => Ok(Part::Other),
+        Part::Formula(_) => Ok(Part::Other),
+        Part::Other => Ok(Part::Other),
     }
 }
 
@@ -169,8 +191,20 @@ fn with_next(
 fn list(first: Part, second: Part, arity: u16) -> Part
     ensures { part_shown result ≡ list_part arity (part_shown first) (part_shown second) }
 {
-    match (first, second) {
-        (Part::Variable(variable), Part::Word(element)) => {
+    match first {
+        Part::Variable(variable) => list_of(variable, second, arity),
+        Part::Word(_) => Part::Other,
+        Part::Positions(_, _) => Part::Other,
+        Part::Formula(_) => Part::Other,
+        Part::Other => Part::Other,
+    }
+}
+
+fn list_of(variable: u32, element: Part, arity: u16) -> Part
+    ensures { part_shown result ≡ list_part arity (Variable variable) (part_shown element) }
+{
+    match element {
+        Part::Word(element) => {
             if variable < u32::from(arity) {
                 Part::Formula(Prop::ListOf {
                     element,
@@ -180,6 +214,9 @@ fn list(first: Part, second: Part, arity: u16) -> Part
                 Part::Other
             }
         }
-        _ => Part::Other,
+        Part::Variable(_) => Part::Other,
+        Part::Positions(_, _) => Part::Other,
+        Part::Formula(_) => Part::Other,
+        Part::Other => Part::Other,
     }
 }

@@ -1,4 +1,4 @@
-ghost use Rattle.std.specs.Prelude.{◌≡◌, ◌<◌, Some, None, length, IfOk, IfErr, OnOk, OnErr};
+ghost use Rattle.std.specs.Prelude.{◌≡◌, None, IfOk, IfErr, OnOk, OnErr};
 ghost use Rattle.cp_assertion.specs.Names.{is_type_of};
 ghost use Rattle.cp_assertion.specs.RegularTypes.{is_regular, is_earlier_of, first_irregular, given, IsFault};
 
@@ -23,7 +23,73 @@ pub fn add_regtype(
     ensures err { IfErr result (λ e. IsFault (first_irregular types.old name.now clauses.now) e) }
     ensures unchanged { OnErr result (types.new ≡ types.old) }
 {
-    Err(TypeError::NoMemory)
+    if let Some(clause) = first_irregular(alloc, types, name, clauses)? {
+        return Err(TypeError::NotRegular { clause });
+    }
+    let copies = copy_clauses(alloc, clauses)?;
+    give(types, name, copies);
+    Ok(())
+}
+
+/// The number, from 0, of the first clause that the rules do not admit.
+fn first_irregular(
+    alloc: Global,
+    types: &Types,
+    name: &Name,
+    clauses: &Clauses,
+) -> Result<Option<u32>, AllocError>
+    ensures { IfOk result (λ first. first ≡ first_irregular types.now name.now clauses.now) }
+{
+    let mut at: u32 = 0;
+    for clause in clauses.as_slice() {
+        if !is_regular(alloc, types, name, clause)? {
+            return Ok(Some(at));
+        }
+        at += 1;
+    }
+    Ok(None)
+}
+
+fn copy_clauses(alloc: Global, clauses: &Clauses) -> Result<Clauses, AllocError>
+    ensures { IfOk result (λ copy. copy ≡ clauses.now) }
+{
+    let mut copy = Clauses::new(alloc);
+    for clause in clauses.as_slice() {
+        copy.push(copy_clause(clause)?)?;
+    }
+    Ok(copy)
+}
+
+fn copy_clause(clause: &Clause) -> Result<Clause, AllocError>
+    ensures { IfOk result (λ copy. copy ≡ clause.now) }
+{
+    Ok(Clause {
+        whole: clause.whole.copy()?,
+        module: clause.module.clone()?,
+        line: clause.line,
+    })
+}
+
+/// Gives the first row of this name these clauses.
+fn give(types: &mut Types, name: &Name, clauses: Clauses)
+    ensures { types.new ≡ given types.old name.now clauses }
+{
+    let none = Types::new(types.alloc());
+    let mut rows = std::mem::replace(types, none).into_vec();
+    give_row(rows.as_mut_slice(), name.bytes(), clauses);
+    *types = Types::from_vec(rows);
+}
+
+fn give_row(rows: &mut [TypeRow], name: &[u8], clauses: Clauses)
+    ensures { rows.new ≡ given rows.old name.now clauses }
+{
+    for at in 0..rows.len() {
+        if rows[at].name.bytes() == name {
+            let row = &mut rows[at];
+            row.clauses = clauses;
+            return;
+        }
+    }
 }
 
 /// Whether the rules of regular types admit a clause as one of the type of this name.

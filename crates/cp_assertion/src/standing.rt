@@ -38,7 +38,7 @@ fn of_kind(kind: PredKind, clauses: &Clauses) -> Standing
 
 /// What the predicate with this name and arity is to a module, by the predicates of its program.
 pub(crate) fn standing_in(preds: &Preds, module: &Name, name: &Name, arity: u16) -> Standing
-    ensures { result ≡ standing_in preds.now module.now name.now arity }
+    ensures { result ≡ standing_in preds.now «module».now name.now arity }
 {
     match named(preds.as_slice(), module.bytes(), name.bytes(), arity) {
         Some(pred) => of_kind(pred.kind, &pred.clauses),
@@ -52,7 +52,7 @@ fn named<'a>(
     name: &[u8],
     arity: u16,
 ) -> Option<&'a PredInfo>
-    ensures { option_copied result ≡ find (λ (p : InfoOf). is_named module.now name.now arity p.name) preds.now }
+    ensures { option_copied result ≡ find (λ (p : InfoOf). is_named «module».now name.now arity p.name) preds.now }
 {
     preds
         .iter()
@@ -60,7 +60,7 @@ fn named<'a>(
 }
 
 fn is_named(pred: &PredInfo, module: &[u8], name: &[u8], arity: u16) -> bool
-    ensures { result ≡ is_named module.now name.now arity pred.now.name }
+    ensures { result ≡ is_named «module».now name.now arity pred.now.name }
 {
     pred.name.module.bytes() == module
         && pred.name.name.bytes() == name
