@@ -316,8 +316,14 @@ SpeaksOfArguments a = SpeaksOf a.pred.arity (prop_of a.before) × SpeaksOf a.pre
 
 -- ---- what else an assertion has
 
--- it is of a predicate of this module, and has this line and its number after so many that are tested
-pub record IsPlaced (m : List ℕ) (line earlier : ℕ) (a : code.Assertion) : Type 0 where
-  pub module_is : a.pred.module ≡ m
+-- it is of this predicate, and has this line and its number after so many that are tested
+pub record IsPlaced (p : PredName) (line earlier : ℕ) (a : code.Assertion) : Type 0 where
+  pub pred_is : a.pred ≡ p
   pub line_is : a.line ≡ line
   pub number_is : a.number ≡ number_after a.status earlier
+
+-- it is of a predicate of this module, and has this line and its number after those of its predicate
+pub record IsPlacedAmong (m : List ℕ) (line : ℕ) (assertions : List code.Assertion) (a : code.Assertion) : Type 0 where
+  pub module_is : a.pred.module ≡ m
+  pub line_is : a.line ≡ line
+  pub number_is : a.number ≡ number_after a.status (checks_of a.pred assertions)

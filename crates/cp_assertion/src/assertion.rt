@@ -1,7 +1,7 @@
 ghost use Rattle.std.specs.Prelude.{◌≡◌, ◌≤◌, ◌&&◌, length, IfOk, IfErr};
 ghost use Rattle.cp_term.specs.PredNameEq.{pred_name_eq};
 ghost use Rattle.cp_code.specs.Programs.{is_check};
-ghost use Rattle.cp_assertion.specs.Assertions.{assertion_in, shown, checks_of, Reads, IsRefusal, IsPlaced, SpeaksOfArguments};
+ghost use Rattle.cp_assertion.specs.Assertions.{assertion_in, shown, checks_of, Reads, IsRefusal, IsPlacedAmong, SpeaksOfArguments};
 
 use crate::assertion_error::AssertionError;
 use crate::draft::Draft;
@@ -22,7 +22,7 @@ pub fn assertion_of(
     program: &Program,
 ) -> Result<Assertion, AssertionError>
     ensures ok { IfOk result (λ a. assertion_in program.now «module».now term.now ≡ Reads (shown a)) }
-    ensures placed { IfOk result (λ a. IsPlaced «module».now line (checks_of a.pred program.now.checks) a) }
+    ensures placed { IfOk result (λ a. IsPlacedAmong «module».now line program.now.checks a) }
     ensures err { IfErr result (λ e. IsRefusal (assertion_in program.now «module».now term.now) e) }
     ensures arguments { IfOk result (λ a. SpeaksOfArguments a) }
 {

@@ -25,8 +25,10 @@ fn parts_of(alloc: Global, cells: &[Cell]) -> Result<Vec<BodyPart>, AllocError>
     ensures { IfOk result (λ parts. reverse parts.items ≡ of_terms part_of cells.now) }
 {
     let mut parts = Vec::new(alloc);
-    for cell in cells.iter().rev() {
-        let part = taken(alloc, cell, &mut parts)?;
+    let mut at = cells.len();
+    'cells: while at > 0 {
+        at -= 1;
+        let part = taken(alloc, &cells[at], &mut parts)?;
         parts.push(part)?;
     }
     Ok(parts)

@@ -39,12 +39,14 @@ impl Draft {
         ensures err { IfErr result (λ e. IsDraftRefusal (drafted term.now) e) }
         ensures arguments { IfOk result (λ d. DraftSpeaksOfArguments (draft_shown d)) }
     {
-        let Some(declared) = Declared::of(term.cells()) else {
-            return Err(AssertionError::NotAssertion);
-        };
-        match Draft::of_body(alloc, declared.status, declared.kind, declared.body)? {
-            Some(draft) => Ok(draft),
-            None => Err(AssertionError::BadHead),
+        match Declared::of(term.cells()) {
+            Some(declared) => {
+                match Draft::of_body(alloc, declared.status, declared.kind, declared.body)? {
+                    Some(draft) => Ok(draft),
+                    None => Err(AssertionError::BadHead),
+                }
+            }
+            None => Err(AssertionError::NotAssertion),
         }
     }
 
@@ -94,7 +96,7 @@ impl Draft {
         earlier: u32,
     ) -> Result<Assertion, AssertionError>
         ensures ok { IfOk result (λ a. settled_draft standing known (draft_shown self) ≡ Reads (shown a)) }
-        ensures placed { IfOk result (λ a. IsPlaced «module» line earlier a) }
+        ensures placed { IfOk result (λ a. IsPlaced (record { «module» = «module»; name = self.name; arity = self.arity }) line earlier a) }
         ensures err { IfErr result (λ e. IsRefusal (settled_draft standing known (draft_shown self)) e) }
         ensures arguments { DraftSpeaksOfArguments (draft_shown self) → IfOk result (λ a. SpeaksOfArguments a) }
     {

@@ -31,8 +31,10 @@ fn parts_of(alloc: Global, cells: &[Cell], arity: u16) -> Result<Vec<Part>, Allo
     ensures { IfOk result (λ parts. stack_shown parts.items ≡ of_terms (part_of arity) cells.now) }
 {
     let mut parts = Vec::new(alloc);
-    for cell in cells.iter().rev() {
-        let part = taken(alloc, cell, arity, &mut parts)?;
+    let mut at = cells.len();
+    'cells: while at > 0 {
+        at -= 1;
+        let part = taken(alloc, &cells[at], arity, &mut parts)?;
         parts.push(part)?;
     }
     Ok(parts)

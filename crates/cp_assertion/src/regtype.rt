@@ -40,6 +40,7 @@ fn first_irregular(
 ) -> Result<Option<u32>, AllocError>
     ensures { IfOk result (λ first. first ≡ first_irregular types.now name.now clauses.now) }
 {
+    let _len = clauses.len();
     let mut at: u32 = 0;
     for clause in clauses.as_slice() {
         if !is_regular(alloc, types, name, clause)? {
