@@ -28,9 +28,9 @@ returns-then-eq c =
     let d = c.index-rows-at-then-eq.result in
     let more : at < length rows = omega arith in
     let first = c.index-rows-at.result in
-    let row : (get_or rows at d).name ≡ first.name = ap (λ (r : TypeRow). r.name) (get_or_default rows at d first more ∙ sym c.index-rows-at.is) in
+    let row : (get_or rows at d).name ≡ (get_or rows at first).name = ap (λ (r : TypeRow). r.name) (get_or_default rows at d first more) in
     let same : bytes_eq (get_or rows at d).name name ≡ true =
-    ap (λ n. bytes_eq n name) (row ∙ sym c.bytes.ensures.bytes) ∙ sym (c.if-eq.ensures tt) in
+    ap (λ n. bytes_eq n name) (row ∙ sym c.bytes.ensures.bytes) ∙ sym (c.if-eq.ensures {u = tt}) in
     set_is rows at (with_clauses (get_or rows at d) cs) more
     ∙ ap (λ rs. take at rows ++ rs) (sym (given_here rows at d name cs more same))
     ∙ sym (c.loop-at.invariant.1 cs)
