@@ -1,6 +1,6 @@
 -- The names of the properties of the language are those of which the definition of properties says something.
 use Rattle.std.proofs.Common.{◌≡◌, ℕ, Bool, true, false, List, refl}
-use Rattle.std.specs.Prelude.{not, ◌||◌, if◌then◌else◌, is_some, Option, Some, None}
+use Rattle.std.specs.Prelude.{not, ◌||◌, if◌then◌else◌, is_some, Some, None}
 use Rattle.std.specs.List.{list_all}
 use Rattle.cp_term.specs.declared.cell.Cell.{Cell}
 use Rattle.cp_goal.specs.Lists.{spine}

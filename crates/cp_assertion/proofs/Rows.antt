@@ -13,7 +13,7 @@ use Rattle.cp_assertion.specs.declared.assertion_error.AssertionError.TheVariant
 use Rattle.cp_assertion.specs.declared.standing.Standing.{Standing}
 use Rattle.cp_assertion.specs.declared.standing.Standing.TheVariants as standing
 use Rattle.cp_assertion.specs.Formulas.{formula}
-use Rattle.cp_assertion.specs.Assertions.{Assertion, Outcome, Reads, Refused, drafted, assertion}
+use Rattle.cp_assertion.specs.Assertions.{Outcome, Reads, Refused, drafted, assertion}
 use Rattle.cp_assertion.specs.RegularTypes.{demands_of, uses, is_regular}
 
 abbrev standing_of : List ℕ → ℕ → Standing

@@ -1,7 +1,7 @@
 -- Assertions (Ciao manual, "The Ciao assertion language"): `:- Status Kind Body` or `:- Kind Body`, where Body is one of `H`,
 -- `H : A`, `H => B` and `H : A => B`. `# Text` after it is ignored, and `+ C` after H, A or B is kept unread. `#`, `=>`, `:`
 -- and `+` bind in this order, from the weakest on, so that a body is `((H + C : A + C) => B + C) # Text`.
-use Rattle.std.specs.Prelude.{◌≡◌, ℕ, zero, suc, ◌+◌, Bool, true, false, ◌&&◌, nat_eq, cond, if◌then◌else◌, List, [], ◌∷◌, find, Option, Some, None, codes}
+use Rattle.std.specs.Prelude.{◌≡◌, ℕ, zero, suc, Bool, true, false, ◌&&◌, nat_eq, cond, if◌then◌else◌, List, [], ◌∷◌, find, Option, Some, None, codes}
 use Rattle.std.specs.Str.{bytes_eq}
 use Rattle.std.specs.List.{count_by}
 use Rattle.std.specs.Option.{option_map}

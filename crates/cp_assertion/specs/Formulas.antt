@@ -2,7 +2,7 @@
 -- `;`. A property is `t(X)` or `list(X, t)` of a variable X of the head, `true`, or `t1 * .. * tn` with a name for each argument.
 -- The arguments are counted from 0. As a head comes first in its declaration and its arguments are distinct variables, they are
 -- the variables 0, 1, .. in the numbering of the declaration's variables.
-use Rattle.std.specs.Prelude.{ℕ, zero, suc, ◌<◌, Bool, true, false, ◌&&◌, nat_eq, nat_lt, if◌then◌else◌, List, [], ◌∷◌, map, reverse, slice_index_or, Option, Some, None}
+use Rattle.std.specs.Prelude.{ℕ, zero, suc, ◌<◌, Bool, true, ◌&&◌, nat_eq, nat_lt, if◌then◌else◌, List, [], ◌∷◌, map, reverse, slice_index_or, Option, Some, None}
 use Rattle.cp_term.specs.declared.cell.Cell.{Cell}
 use Rattle.cp_term.specs.declared.cell.Cell.TheVariants.{Var, Int, Atom, Func}
 use Rattle.cp_goal.specs.Folds.{of_terms}

@@ -56,7 +56,11 @@ pub(crate) fn names_of(alloc: Global, demands: Demands) -> Result<Names, AllocEr
 {
     let mut names = Names::new(alloc);
     for demand in demands.into_vec() {
-        let Demand { name, var: _, of_list: _ } = demand;
+        let Demand {
+            name,
+            var: _,
+            of_list: _,
+        } = demand;
         names.push(name)?;
     }
     Ok(names)

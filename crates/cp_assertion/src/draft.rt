@@ -1,10 +1,10 @@
-ghost use Rattle.std.specs.Prelude.{◌≡◌, ◌<◌, ◌^◌, ℕ, List, length, IfOk, IfErr, MatchOption};
+ghost use Rattle.std.specs.Prelude.{◌≡◌, ◌<◌, ◌^◌, ℕ, List, length, is_some, IfOk, IfErr, MatchOption};
 ghost use Rattle.std.specs.Option.{option_map};
 ghost use Rattle.cp_code.specs.Programs.{prop_of};
 ghost use Rattle.cp_code.specs.Properties.{Prop as PropOf};
 ghost use Rattle.cp_assertion.specs.Names.{is_type_of};
 ghost use Rattle.cp_assertion.specs.Formulas.{is_known, SpeaksOf};
-ghost use Rattle.cp_assertion.specs.Assertions.{drafted, drafted_form, form_of, formula_or_always, behind_infix, draft_shown, drafted_shown, are_known, is_known_formula, settled_draft, shown, number_after, IsDraft, NoHead, IsDraftRefusal, IsRefusal, Reads, IsPlaced, FormulaSpeaksOf, DraftSpeaksOfArguments, SpeaksOfArguments};
+ghost use Rattle.cp_assertion.specs.Assertions.{declared, drafted, drafted_form, form_of, formula_or_always, behind_infix, draft_shown, drafted_shown, are_known, is_known_formula, settled_draft, shown, number_after, IsDraft, NoHead, IsDraftRefusal, IsRefusal, Reads, IsPlaced, FormulaSpeaksOf, DraftSpeaksOfArguments, SpeaksOfArguments};
 
 use crate::assertion_error::AssertionError;
 use crate::declared::Declared;
@@ -127,6 +127,14 @@ impl Draft {
             line,
         })
     }
+}
+
+/// Whether the body D of a declaration `:- D` is `Kind Body` or `Status Kind Body`, so that it is an assertion, be it a good
+/// one or not. It takes no memory.
+pub fn is_assertion(term: &Term) -> bool
+    ensures { result ≡ is_some (declared term.now) }
+{
+    Declared::of(term.cells()).is_some()
 }
 
 fn is_known_formula(formula: &Option<Prop>, types: &Types) -> bool

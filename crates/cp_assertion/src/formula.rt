@@ -12,11 +12,7 @@ use std::alloc::{AllocError, Global};
 
 /// The formula on so many arguments that a term is, if it is one. Its names are not looked up.
 #[tactic(auto, unfolding(crate::specs::Formulas::formula))]
-pub(crate) fn formula(
-    alloc: Global,
-    cells: &[Cell],
-    arity: u16,
-) -> Result<Option<Prop>, AllocError>
+pub(crate) fn formula(alloc: Global, cells: &[Cell], arity: u16) -> Result<Option<Prop>, AllocError>
     ensures { IfOk result (λ p. option_map prop_of p ≡ formula arity cells.now) }
 {
     let mut parts = parts_of(alloc, cells, arity)?;
@@ -41,12 +37,7 @@ fn parts_of(alloc: Global, cells: &[Cell], arity: u16) -> Result<Vec<Part>, Allo
 }
 
 /// What the term is that begins with the cell and goes on with the last of the parts, which are taken out.
-fn taken(
-    alloc: Global,
-    cell: &Cell,
-    arity: u16,
-    parts: &mut Vec<Part>,
-) -> Result<Part, AllocError>
+fn taken(alloc: Global, cell: &Cell, arity: u16, parts: &mut Vec<Part>) -> Result<Part, AllocError>
     ensures part { IfOk result (λ p. part_shown p ≡ part_of arity cell.now (take (arity_of cell.now) (stack_shown parts.old.items))) }
     ensures rest { OnOk result (stack_shown parts.new.items ≡ drop (arity_of cell.now) (stack_shown parts.old.items)) }
 {

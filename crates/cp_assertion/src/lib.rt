@@ -21,7 +21,7 @@ mod type_uses;
 
 pub use assertion::assertion_of;
 pub use assertion_error::AssertionError;
-pub use draft::Draft;
+pub use draft::{Draft, is_assertion};
 pub use names::{is_of_language, is_property};
 pub use regtype::{add_regtype, is_regular};
 pub use standing::Standing;

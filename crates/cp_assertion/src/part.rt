@@ -27,13 +27,7 @@ impl Part {
         match self {
             Part::Variable(_) => None,
             Part::Word(name) => word_formula(name, arity),
-            Part::Positions(count, prop) => {
-                if count == arity {
-                    Some(prop)
-                } else {
-                    None
-                }
-            }
+            Part::Positions(count, prop) => { if count == arity { Some(prop) } else { None } }
             Part::Formula(prop) => Some(prop),
             Part::Other => None,
         }

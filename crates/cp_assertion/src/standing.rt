@@ -46,12 +46,7 @@ pub(crate) fn standing_in(preds: &Preds, module: &Name, name: &Name, arity: u16)
     }
 }
 
-fn named<'a>(
-    preds: &'a [PredInfo],
-    module: &[u8],
-    name: &[u8],
-    arity: u16,
-) -> Option<&'a PredInfo>
+fn named<'a>(preds: &'a [PredInfo], module: &[u8], name: &[u8], arity: u16) -> Option<&'a PredInfo>
     ensures { option_copied result ≡ find (λ (p : InfoOf). is_named «module».now name.now arity p.name) preds.now }
 {
     preds
@@ -62,7 +57,5 @@ fn named<'a>(
 fn is_named(pred: &PredInfo, module: &[u8], name: &[u8], arity: u16) -> bool
     ensures { result ≡ is_named «module».now name.now arity pred.now.name }
 {
-    pred.name.module.bytes() == module
-        && pred.name.name.bytes() == name
-        && pred.name.arity == arity
+    pred.name.module.bytes() == module && pred.name.name.bytes() == name && pred.name.arity == arity
 }

@@ -116,9 +116,19 @@ fn an_assertion_is_read(rt: HostRuntime) -> Result<(), Fail> {
 fn a_regular_type_gets_its_clauses(rt: HostRuntime) -> Result<(), Fail> {
     let alloc = rt.alloc();
     let mut types = types(alloc)?;
-    let twice = add_regtype(alloc, &mut types, &name(alloc, b"t")?, &type_clause(alloc, 0)?);
+    let twice = add_regtype(
+        alloc,
+        &mut types,
+        &name(alloc, b"t")?,
+        &type_clause(alloc, 0)?,
+    );
     assert_eq!(rt; twice, Err(TypeError::NotRegular { clause: 0 }));
-    add_regtype(alloc, &mut types, &name(alloc, b"t")?, &type_clause(alloc, 1)?)?;
+    add_regtype(
+        alloc,
+        &mut types,
+        &name(alloc, b"t")?,
+        &type_clause(alloc, 1)?,
+    )?;
     assert_eq!(rt; types.get(0).map(|row| row.clauses.len()), Some(1));
     Ok(())
 }

@@ -1,4 +1,4 @@
-use Rattle.std.proofs.Common.{◌≡◌, drop, reverse, ap, ◌∙◌, arith}
+use Rattle.std.proofs.Common.{drop, reverse, ap, ◌∙◌, arith}
 use Rattle.std.proofs.lemmas.List.{drop-drop}
 use Rattle.cp_assertion.proofs.body.taken_away.Goals as goal
 

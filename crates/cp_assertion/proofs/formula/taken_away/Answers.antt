@@ -1,4 +1,4 @@
-use Rattle.std.proofs.Common.{◌≡◌, drop, reverse, ap, ◌∙◌, arith}
+use Rattle.std.proofs.Common.{drop, ap, ◌∙◌, arith}
 use Rattle.std.proofs.lemmas.List.{drop-drop}
 use Rattle.cp_assertion.specs.Formulas.{stack_shown}
 use Rattle.cp_assertion.proofs.formula.taken_away.Goals as goal

@@ -1,5 +1,5 @@
 use Rattle.std.proofs.Common.{◌≡◌, sym, ◌∙◌, ap, subst}
-use Rattle.cp_assertion.specs.Assertions.{Drafted, IsDraft, NoHead, NoAssertion, declared, drafted, drafted_body, drafted_shown, draft_shown, DraftSpeaksOfArguments}
+use Rattle.cp_assertion.specs.Assertions.{IsDraft, declared, drafted, drafted_body, drafted_shown, draft_shown}
 use Rattle.cp_assertion.proofs.Speaking.{DraftedSpeaks, drafted-speaks}
 use Rattle.cp_assertion.proofs.draft.Draft.of.Goals as goal
 
