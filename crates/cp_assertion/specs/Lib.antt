@@ -1,0 +1,4 @@
+pub mod Names
+pub mod Formulas
+pub mod Assertions
+pub mod RegularTypes
