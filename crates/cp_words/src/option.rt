@@ -1,0 +1,81 @@
+ghost use Rattle.std.specs.Prelude.{◌≡◌, ◌==◌, ◌||◌, ◌≤◌, is_some, option_map, map, count_by, find};
+ghost use Rattle.std.specs.List.{list_any};
+ghost use Rattle.cp_words.specs.Words.{is_of, number_by, word_of, are_known, is_positional};
+ghost use Rattle.cp_words.specs.Options.{row_of};
+
+use crate::number::is_number_in;
+use crate::positional::is_positional;
+use cp_io::Bytes;
+
+/// An option with a number, written in one word.
+#[derive(Clone, Copy)]
+pub(crate) struct NumberOption {
+    /// How the word begins, with the name and `=`.
+    pub(crate) beginning: &'static [u8],
+    pub(crate) least: u64,
+    pub(crate) most: u64,
+    /// The word that stands for the option where the words have none.
+    pub(crate) default: &'static [u8],
+}
+
+impl NumberOption {
+    /// Whether the word is one of this option.
+    fn is_of(&self, word: &[u8]) -> bool
+        ensures { result ≡ is_of (row_of self.now) word.now }
+    {
+        word.starts_with(self.beginning)
+    }
+
+    /// Whether the word gives the option a number in its range.
+    pub(crate) fn accepts(&self, word: &[u8]) -> bool
+        ensures { result ≡ is_some (number_by (row_of self.now) word.now) }
+    {
+        match word.strip_prefix(self.beginning) {
+            Some(text) => is_number_in(self.least, self.most, text),
+            None => false,
+        }
+    }
+
+    /// How many of the words are this option's.
+    fn count(&self, words: &[Bytes]) -> usize
+        ensures { result ≡ count_by (is_of (row_of self.now)) words.now }
+    {
+        words
+            .iter()
+            .filter(|word| self.is_of(word.as_slice()))
+            .count()
+    }
+
+    fn first<'a>(&self, words: &'a [Bytes]) -> Option<&'a Bytes>
+        ensures { option_map (λ word. word.now) result ≡ find (is_of (row_of self.now)) words.now }
+    {
+        words.iter().find(|word| self.is_of(word.as_slice()))
+    }
+
+    /// The word that gives the option, which may stand once.
+    pub(crate) fn word_of<'a>(&self, words: &'a [Bytes]) -> Option<&'a [u8]>
+        ensures { option_map (λ word. word.now) result ≡ word_of (row_of self.now) words.now }
+    {
+        if self.count(words) > 1 {
+            return None;
+        }
+        match self.first(words) {
+            Some(word) => Some(word.as_slice()),
+            None => Some(self.default),
+        }
+    }
+}
+
+/// Whether the word is positional or one of these options.
+fn is_known(options: &[NumberOption], word: &[u8]) -> bool
+    ensures { result ≡ (is_positional word.now || list_any (λ o. is_of o word.now) (map row_of options.now)) }
+{
+    is_positional(word) || options.iter().any(|option| option.is_of(word))
+}
+
+/// Whether each word is positional or one of these options.
+pub(crate) fn are_known(options: &[NumberOption], words: &[Bytes]) -> bool
+    ensures { result ≡ are_known (map row_of options.now) words.now }
+{
+    words.iter().all(|word| is_known(options, word.as_slice()))
+}
