@@ -66,11 +66,18 @@ impl NumberOption {
     }
 }
 
+/// Whether the word is one of these options.
+fn is_option(options: &[NumberOption], word: &[u8]) -> bool
+    ensures { result ≡ list_any (λ o. is_of (row_of o) word.now) options.now }
+{
+    options.iter().any(|option| option.is_of(word))
+}
+
 /// Whether the word is positional or one of these options.
 fn is_known(options: &[NumberOption], word: &[u8]) -> bool
     ensures { result ≡ (is_positional word.now || list_any (λ o. is_of o word.now) (map row_of options.now)) }
 {
-    is_positional(word) || options.iter().any(|option| option.is_of(word))
+    is_positional(word) || is_option(options, word)
 }
 
 /// Whether each word is positional or one of these options.
