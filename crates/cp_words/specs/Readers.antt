@@ -1,6 +1,7 @@
 -- The commands of `clap` that read the values, one for each command word, and the words that they read.
-use Rattle.std.specs.Prelude.{ℕ, ℤ, pos, List, [], ◌∷◌, Some, codes}
-use Rattle.clap.specs.Words.{App, Rule, Text, new_app, new_rule, with_rule}
+use Rattle.std.specs.Prelude.{ℕ, ℤ, pos, List, [], ◌∷◌, Option, Some, option_and_then, codes}
+use Rattle.clap.specs.Words.{App, Rule, Text, new_app, Row, new_rule, one_of, with_rule}
+use Rattle.cp_words.specs.Words.{number_in}
 use Rattle.clap.specs.declared.builder.value_parser.ValueParser.{ValueParser}
 use Rattle.clap.specs.declared.builder.value_parser.ValueParser.TheVariants as vp
 
@@ -29,3 +30,7 @@ sim_app = sim_app_of (from_one 10000000) (from_one 32) (vp.Unsigned 0 1844674407
 
 abbrev pub gen_app : App
 gen_app = with_rule (new_app (codes "gen")) (value_rule (codes "items") (from_one 100000))
+
+-- the number of an argument, of at most this size
+abbrev pub number_at : ℕ → Text → List Row → Option ℕ
+number_at most id rows = option_and_then (number_in 0 most) (one_of id rows)

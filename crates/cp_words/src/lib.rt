@@ -5,6 +5,8 @@ mod command;
 mod number;
 mod option;
 mod positional;
+mod reader;
+mod text;
 mod threads;
 
 pub use command::{Command, Words, WordsError};

@@ -1,6 +1,3 @@
-ghost use Rattle.std.specs.Prelude.{ℕ, List, [], ◌∷◌, codes, true};
-ghost use Rattle.clap.specs.Words.{takes};
-ghost use Rattle.cp_words.specs.Readers.{check_app};
 ghost use Rattle.std.specs.Prelude.{◌≡◌, is_some};
 ghost use Rattle.std.specs.List.{list_all};
 ghost use Rattle.std.specs.Char.{is_ascii_digit};
@@ -38,10 +35,4 @@ pub(crate) fn is_number_in(least: u64, most: u64, text: &[u8]) -> bool
         },
         Err(_) => false,
     }
-}
-
-fn probe() -> bool
-    ensures { (file : List ℕ) → takes check_app (codes "check" ∷ codes "--" ∷ file ∷ []) ≡ true }
-{
-    true
 }

@@ -1,10 +1,12 @@
-ghost use Rattle.std.specs.Prelude.{◌≡◌, ◌==◌, ◌||◌, ◌≤◌, is_some, option_map, map, count_by, find};
-ghost use Rattle.std.specs.List.{list_any};
-ghost use Rattle.cp_words.specs.Words.{is_of, number_by, word_of, are_known, is_positional};
+ghost use Rattle.std.specs.Prelude.{◌≡◌, ◌||◌, true, is_some, option_map, map, count_by, find, MatchOption, None};
+ghost use Rattle.std.specs.List.{All, list_any};
+ghost use Rattle.std.specs.Str.{IsUtf8};
+ghost use Rattle.cp_words.specs.Words.{is_of, number_by, number_of, word_of, are_known, is_positional};
 ghost use Rattle.cp_words.specs.Options.{row_of};
 
 use crate::number::is_number_in;
 use crate::positional::is_positional;
+use crate::text::text_of;
 use cp_io::Bytes;
 
 /// An option with a number, written in one word.
@@ -15,7 +17,7 @@ pub(crate) struct NumberOption {
     pub(crate) least: u64,
     pub(crate) most: u64,
     /// The word that stands for the option where the words have none.
-    pub(crate) default: &'static [u8],
+    pub(crate) default: &'static str,
 }
 
 impl NumberOption {
@@ -27,7 +29,7 @@ impl NumberOption {
     }
 
     /// Whether the word gives the option a number in its range.
-    pub(crate) fn accepts(&self, word: &[u8]) -> bool
+    fn accepts(&self, word: &[u8]) -> bool
         ensures { result ≡ is_some (number_by (row_of self.now) word.now) }
     {
         match word.strip_prefix(self.beginning) {
@@ -53,15 +55,33 @@ impl NumberOption {
     }
 
     /// The word that gives the option, which may stand once.
-    pub(crate) fn word_of<'a>(&self, words: &'a [Bytes]) -> Option<&'a [u8]>
+    fn word_of<'a>(&self, words: &'a [Bytes]) -> Option<&'a str>
+        requires { All IsUtf8 words.now }
         ensures { option_map (λ word. word.now) result ≡ word_of (row_of self.now) words.now }
     {
         if self.count(words) > 1 {
             return None;
         }
         match self.first(words) {
-            Some(word) => Some(word.as_slice()),
+            Some(word) => Some(text_of(word.as_slice())),
             None => Some(self.default),
+        }
+    }
+
+    /// The word that gives the option, if the words give it a number.
+    pub(crate) fn word_in<'a>(&self, words: &'a [Bytes]) -> Option<&'a str>
+        requires { All IsUtf8 words.now }
+        ensures { MatchOption result (number_of (row_of self.now) words.now ≡ None) (λ word. (is_some (number_by (row_of self.now) word.now) ≡ true) × (number_of (row_of self.now) words.now ≡ number_by (row_of self.now) word.now)) }
+    {
+        match self.word_of(words) {
+            Some(word) => {
+                if self.accepts(word.as_bytes()) {
+                    Some(word)
+                } else {
+                    None
+                }
+            }
+            None => None,
         }
     }
 }

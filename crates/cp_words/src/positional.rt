@@ -1,6 +1,9 @@
 ghost use Rattle.std.specs.Prelude.{◌≡◌, option_map, count_by, find};
+ghost use Rattle.std.specs.List.{All};
+ghost use Rattle.std.specs.Str.{IsUtf8};
 ghost use Rattle.cp_words.specs.Words.{is_positional, positional_of};
 
+use crate::text::text_of;
 use cp_io::Bytes;
 
 /// Whether the word is not empty and does not begin with `-`.
@@ -30,12 +33,15 @@ fn first_positional(words: &[Bytes]) -> Option<&Bytes>
 }
 
 /// The only positional word.
-pub(crate) fn positional_of(words: &[Bytes]) -> Option<&Bytes>
+pub(crate) fn positional_of(words: &[Bytes]) -> Option<&str>
+    requires { All IsUtf8 words.now }
     ensures { option_map (λ word. word.now) result ≡ positional_of words.now }
 {
-    if count_positional(words) == 1 {
-        first_positional(words)
-    } else {
-        None
+    if count_positional(words) != 1 {
+        return None;
+    }
+    match first_positional(words) {
+        Some(word) => Some(text_of(word.as_slice())),
+        None => None,
     }
 }
