@@ -49,14 +49,18 @@ abbrev pub gen_in : List (List ℕ) → Option Command
 gen_in words =
     if are_known [] words then gen_from (option_and_then (number_in 1 100000) (positional_of words)) else None
 
--- the command that a list of words writes, if it writes one
-abbrev pub command_in : List (List ℕ) → Option Command
-command_in [] = None
-command_in (word ∷ words) =
+-- the command of a command word and the words after it
+abbrev pub command_by : List ℕ → List (List ℕ) → Option Command
+command_by word words =
     if bytes_eq word (codes "check") then check_in words
     else if bytes_eq word (codes "sim") then sim_in words
     else if bytes_eq word (codes "gen") then gen_in words
     else None
+
+-- the command that a list of words writes, if it writes one
+abbrev pub command_in : List (List ℕ) → Option Command
+command_in [] = None
+command_in (word ∷ words) = command_by word words
 
 -- The words are this command.
 pub record IsCommand (words : List (List ℕ)) (command : Command) : Type 0 where

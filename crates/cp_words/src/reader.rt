@@ -11,7 +11,7 @@ use clap::{Arg, ArgMatches, Command, value_parser};
 use std::alloc::{AllocError, Global};
 
 /// The numbers from 1 to `most`.
-fn from_one(most: u32) -> ValueParser<'static>
+fn from_one<'a>(most: u32) -> ValueParser<'a>
     ensures { result ≡ from_one most }
 {
     value_parser!(u32).range(1..=i64::from(most))
@@ -33,13 +33,13 @@ fn value<'a>(alloc: Global, name: &'a str, values: ValueParser<'a>) -> Arg<'a>
     Arg::new(alloc, name).value_parser(values)
 }
 
-pub(crate) fn check_reader(alloc: Global) -> Result<Command<'static>, AllocError>
+pub(crate) fn check_reader<'a>(alloc: Global) -> Result<Command<'a>, AllocError>
     ensures { IfOk result (λ command. app_of command ≡ check_app) }
 {
     Command::new(alloc, "check").arg(Arg::new(alloc, "file"))
 }
 
-pub(crate) fn sim_reader(alloc: Global) -> Result<Command<'static>, AllocError>
+pub(crate) fn sim_reader<'a>(alloc: Global) -> Result<Command<'a>, AllocError>
     ensures { IfOk result (λ command. app_of command ≡ sim_app) }
 {
     let steps = option(alloc, "steps", from_one(10_000_000));
@@ -52,7 +52,7 @@ pub(crate) fn sim_reader(alloc: Global) -> Result<Command<'static>, AllocError>
         .arg(Arg::new(alloc, "file"))
 }
 
-pub(crate) fn gen_reader(alloc: Global) -> Result<Command<'static>, AllocError>
+pub(crate) fn gen_reader<'a>(alloc: Global) -> Result<Command<'a>, AllocError>
     ensures { IfOk result (λ command. app_of command ≡ gen_app) }
 {
     let items = value(alloc, "items", from_one(100_000));
@@ -62,7 +62,7 @@ pub(crate) fn gen_reader(alloc: Global) -> Result<Command<'static>, AllocError>
 /// What a command makes of words that it takes.
 pub(crate) fn matches_of<'a>(
     command: Command<'a>,
-    words: &'a [&'a str],
+    words: &'a [&str],
 ) -> Result<ArgMatches<'a>, WordsError>
     requires { takes (app_of command) (map (λ word. word.now) words.now) ≡ true }
     ensures ok { IfOk result (λ m. rows_of (found_of m) ≡ matches_of (app_of command.entry) (map (λ word. word.now) words.entry.now)) }

@@ -15,7 +15,12 @@ fn is_utf8(word: &[u8]) -> bool
 pub(crate) fn are_utf8(words: &[Bytes]) -> bool
     ensures { IsTrue result ↔ All IsUtf8 words.now }
 {
-    words.iter().all(|word| is_utf8(word.as_slice()))
+    for word in words {
+        if !is_utf8(word.as_slice()) {
+            return false;
+        }
+    }
+    true
 }
 
 /// The text of a word.
