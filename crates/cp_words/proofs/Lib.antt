@@ -1,3 +1,4 @@
 pub mod Numerals
 pub mod Sorting
 pub mod Reading
+pub mod Values

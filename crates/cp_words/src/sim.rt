@@ -53,20 +53,16 @@ fn sim_words(words: &[Bytes]) -> Option<SimWords<'_>>
     if !are_known(&[STEPS, ENGINES, SEED], words) {
         return None;
     }
-    match (
-        positional_of(words),
-        STEPS.word_in(words),
-        ENGINES.word_in(words),
-        SEED.word_in(words),
-    ) {
-        (Some(file), Some(steps), Some(engines), Some(seed)) => Some(SimWords {
-            file,
-            steps,
-            engines,
-            seed,
-        }),
-        _ => None,
-    }
+    let file = positional_of(words)?;
+    let steps = STEPS.word_in(words)?;
+    let engines = ENGINES.word_in(words)?;
+    let seed = SEED.word_in(words)?;
+    Some(SimWords {
+        file,
+        steps,
+        engines,
+        seed,
+    })
 }
 
 /// Reads the values of the words.
