@@ -2,3 +2,4 @@ pub mod Numerals
 pub mod Sorting
 pub mod Reading
 pub mod Values
+pub mod Whole
