@@ -1,0 +1,5 @@
+pub mod Numerals
+pub mod Sorting
+pub mod Reading
+pub mod Values
+pub mod Whole

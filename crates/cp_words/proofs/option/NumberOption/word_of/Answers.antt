@@ -1,0 +1,11 @@
+use Rattle.std.proofs.Common.{◌≡◌, ◌∙◌, List, ℕ, Some, find, option_map, ap, sym, subst, rules}
+use Rattle.std.specs.Str.{IsUtf8}
+use Rattle.cp_words.specs.Words.{is_of}
+use Rattle.cp_words.specs.Options.{row_of}
+use Rattle.cp_words.proofs.Sorting.{found_has}
+use Rattle.cp_words.proofs.option.NumberOption.word_of.Goals as goal
+
+pub text_of-requires : goal.text_of-requires
+text_of-requires c =
+    let found : find (is_of (row_of c.args.self.now)) c.args.words.now ≡ Some c.in-Some.word.now = search rules in
+    subst IsUtf8 (sym c.as_slice.ensures) (found_has IsUtf8 (is_of (row_of c.args.self.now)) c.args.words.now c.requires c.in-Some.word.now found)
