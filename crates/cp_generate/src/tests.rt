@@ -3,7 +3,9 @@ use crate::generate;
 #[test]
 fn the_digits_stand_in_two_places(rt: HostRuntime) {
     let text = generate(rt.alloc(), 12).expect(&rt, "memory");
-    assert!(rt; text.as_slice() == b":- module(load, [main/0], [concurrency]).
+    assert!(rt;
+        text.as_slice()
+            == b":- module(load, [main/0], [concurrency]).
 :- concurrent item/1.
 :- concurrent got/2.
 main :-
@@ -21,5 +23,7 @@ work(K, S) :- retract_fact(item(X)), !, K1 is K + 1, S1 is S + X, work(K1, S1).
 work(K, S) :- assertz_fact(got(K, S)).
 total(K, S) :- retract_fact(got(A, B)), !, K1 is K + A, S1 is S + B, total(K1, S1).
 total(K, S) :- write(12), write(' produced, '), write(K), write(' taken, sum '), write(S), nl.
-".as_slice());
+"
+                .as_slice()
+    );
 }

@@ -1,7 +1,7 @@
 -- What `clap` makes of the words that are handed to it.
-use Rattle.std.proofs.Common.{◌≡◌, ◌∙◌, ◌&&◌, ◌++◌, ℕ, Bool, true, false, List, [], ◌∷◌, Some, codes, refl, rules, arith}
+use Rattle.std.proofs.Common.{◌≡◌, ◌∙◌, ◌&&◌, ◌++◌, Bool, true, false, List, [], ◌∷◌, Some, codes, refl}
 use Rattle.std.specs.Prelude.{pos}
-use Rattle.clap.specs.Words.{App, Text, Row, takes, matches_of, one_of, first_of, without_minus}
+use Rattle.clap.specs.Words.{Text, takes, matches_of, one_of, first_of, without_minus}
 use Rattle.clap.specs.ValueTests.{accepts, is_signed_in, is_unsigned_in}
 use Rattle.clap.specs.declared.builder.value_parser.ValueParser.{ValueParser}
 use Rattle.clap.specs.declared.builder.value_parser.ValueParser.TheVariants as vp

@@ -1,9 +1,8 @@
 -- Values that the grammar accepts, as `clap` takes and reads them.
 use Rattle.std.proofs.Common.{◌≡◌, ◌∙◌, ℕ, ◌<◌, ◌≤◌, ◌^◌, ◌==◌, ◌++◌, Bool, true, false, cond, List, [], ◌∷◌, length, take, drop, get_or, if◌then◌else◌, Option, Some, None, is_some, codes, rules, lit<, lit≤, arith, refl, sym, ap, ap₂, subst}
-use Rattle.std.specs.Prelude.{ℤ, pos, neg_ℤ, ◌≤ℤ◌, FitsSigned, nat_eq, unwrap_or, option_and_then}
+use Rattle.std.specs.Prelude.{ℤ, pos, neg_ℤ, ◌≤ℤ◌, FitsSigned, unwrap_or, option_and_then}
 use mir.Syntax.{w64}
 use Rattle.std.specs.Int.{IsInRange}
-use Rattle.std.specs.Str.{bytes_eq}
 use Rattle.std.specs.Str.Parse.{IsNumeral, digits_value, signed_digits_value, starts_with_minus, without_leading_plus, without_leading_sign}
 use Rattle.std.proofs.lemmas.Bool.{ne_eqb}
 use Rattle.std.proofs.lemmas.Int.{ints}
@@ -61,8 +60,8 @@ unsigned most text small i =
     let numeral = numeral_of text i.numeral in
     let high : digits_value 10 text ≤ most = i.high in
     Accepts-accepts false (vp.Unsigned 0 most) text (
-      subst (λ (t : List ℕ). IsNumeral 10 t × (digits_value 10 t < 2 ^ 64) × (0 ≤ digits_value 10 t) × (digits_value 10 t ≤ most))
-          (sym (no_plus text numeral)) (numeral, omega arith, omega arith, high)
+    subst (λ (t : List ℕ). IsNumeral 10 t × (digits_value 10 t < 2 ^ 64) × (0 ≤ digits_value 10 t) × (digits_value 10 t ≤ most))
+    (sym (no_plus text numeral)) (numeral, omega arith, omega arith, high)
     )
 
 -- the word of an option that has a number

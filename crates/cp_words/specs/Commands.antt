@@ -5,10 +5,10 @@
 --     sim FILE    --steps=N (1 to 10,000,000; 1,000,000), --engines=N (1 to 32; 16),
 --                 --seed=N (0 to 18,446,744,073,709,551,615; 0)
 --     gen N       N from 1 to 100,000
-use Rattle.std.specs.Prelude.{◌≡◌, ◌⊎◌, ℕ, Bool, if◌then◌else◌, List, [], ◌∷◌, Option, Some, None, option_and_then, codes}
+use Rattle.std.specs.Prelude.{◌≡◌, ◌⊎◌, ℕ, if◌then◌else◌, List, [], ◌∷◌, Option, Some, None, option_and_then, codes}
 use Rattle.std.specs.List.{All}
 use Rattle.std.specs.Str.{IsUtf8, bytes_eq}
-use Rattle.cp_words.specs.Words.{NumberOption, number_in, number_by, number_of, positional_of, are_known}
+use Rattle.cp_words.specs.Words.{NumberOption, number_in, number_of, positional_of, are_known}
 use Rattle.cp_words.specs.declared.command.Command.{Command}
 use Rattle.cp_words.specs.declared.command.Command.TheVariants.{Check, Sim, Gen}
 

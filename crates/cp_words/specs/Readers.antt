@@ -1,5 +1,5 @@
 -- The commands of `clap` that read the values, one for each command word, and the words that they read.
-use Rattle.std.specs.Prelude.{ℕ, ℤ, pos, List, [], ◌∷◌, Option, Some, option_and_then, codes}
+use Rattle.std.specs.Prelude.{ℕ, pos, List, Option, Some, option_and_then, codes}
 use Rattle.clap.specs.Words.{App, Rule, Text, new_app, Row, new_rule, one_of, with_rule}
 use Rattle.cp_words.specs.Words.{number_in}
 use Rattle.clap.specs.declared.builder.value_parser.ValueParser.{ValueParser}

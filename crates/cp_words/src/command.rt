@@ -11,7 +11,9 @@ pub type Words = ListOf<Bytes>;
 #[derive(Drop)]
 pub enum Command {
     /// Load a file.
-    Check { file: Bytes },
+    Check {
+        file: Bytes,
+    },
     /// Run a file on one thread: at most so many steps for each goal (1 to 10,000,000), so many engines (1 to 32), and the
     /// seed of the schedule.
     Sim {
@@ -21,7 +23,9 @@ pub enum Command {
         seed: u64,
     },
     /// Write the generated program with so many items (1 to 100,000).
-    Gen { items: u32 },
+    Gen {
+        items: u32,
+    },
 }
 
 /// Why words give no command.

@@ -61,7 +61,13 @@ const TABLE: [(&[&[u8]], Wanted); 24] = [
     (&[b"check", b"\xff"], Usage),
     (&[b"sim", b"m.pl"], Sim(b"m.pl", 1000000, 16, 0)),
     (
-        &[b"sim", b"--seed=18446744073709551615", b"m.pl", b"--engines=32", b"--steps=1"],
+        &[
+            b"sim",
+            b"--seed=18446744073709551615",
+            b"m.pl",
+            b"--engines=32",
+            b"--steps=1",
+        ],
         Sim(b"m.pl", 1, 32, 18446744073709551615),
     ),
     (&[b"sim", b"m.pl", b"--seed=18446744073709551616"], Usage),

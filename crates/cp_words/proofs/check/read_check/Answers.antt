@@ -1,5 +1,5 @@
-use Rattle.std.proofs.Common.{◌≡◌, ◌∙◌, List, ℕ, [], ◌∷◌, Some, is_some, map, codes, rules, ap, ap₂, sym}
-use Rattle.clap.specs.Words.{app_of, found_of, rows_of, takes}
+use Rattle.std.proofs.Common.{◌≡◌, ◌∙◌, List, ℕ, [], ◌∷◌, is_some, map, codes, rules, ap, ap₂}
+use Rattle.clap.specs.Words.{found_of, rows_of, takes}
 use Rattle.cp_words.specs.declared.command.Command.TheVariants.{Check}
 use Rattle.cp_words.proofs.Reading.{check_takes}
 use Rattle.cp_words.proofs.Values.{check_rows, same_text}

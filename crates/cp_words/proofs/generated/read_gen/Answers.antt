@@ -1,5 +1,5 @@
-use Rattle.std.proofs.Common.{◌≡◌, ◌∙◌, List, ℕ, [], ◌∷◌, Option, Some, is_some, map, codes, rules, ap, ap₂, sym, lit<}
-use Rattle.clap.specs.Words.{app_of, found_of, rows_of, takes}
+use Rattle.std.proofs.Common.{◌≡◌, ◌∙◌, [], ◌∷◌, is_some, map, codes, rules, ap, ap₂, sym, lit<}
+use Rattle.clap.specs.Words.{found_of, rows_of, takes}
 use Rattle.cp_words.specs.Commands.{gen_from}
 use Rattle.cp_words.proofs.Numerals.{in_range}
 use Rattle.cp_words.proofs.Reading.{gen_takes}

@@ -1,4 +1,4 @@
-use Rattle.std.proofs.Common.{◌≡◌, rules}
+use Rattle.std.proofs.Common.{rules}
 use Rattle.cp_words.specs.Words.{is_of}
 use Rattle.cp_words.specs.Options.{row_of}
 use Rattle.cp_words.proofs.Sorting.{list_any-map}

@@ -1,4 +1,4 @@
-use Rattle.std.proofs.Common.{◌≡◌, ◌∙◌, List, ℕ, Some, find, option_map, ap, sym, subst, rules}
+use Rattle.std.proofs.Common.{◌≡◌, Some, find, sym, subst, rules}
 use Rattle.std.specs.Str.{IsUtf8}
 use Rattle.cp_words.specs.Words.{is_positional}
 use Rattle.cp_words.proofs.Sorting.{found_has}

@@ -1,4 +1,3 @@
-use Rattle.std.proofs.Common.{rules}
 use Rattle.cp_words.proofs.Numerals.{and_left}
 use Rattle.cp_words.proofs.reader.matches_of.Goals as goal
 

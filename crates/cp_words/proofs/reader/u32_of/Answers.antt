@@ -1,4 +1,4 @@
-use Rattle.std.proofs.Common.{ℕ, ◌≡◌, ◌∙◌, Some, is_some, arith, ap, sym}
+use Rattle.std.proofs.Common.{◌∙◌, is_some, arith, ap, sym}
 use Rattle.std.specs.Str.Parse.{ParsesUnsigned, ExplainsUnsignedError, HasUnsignedDigitsIfOk}
 use Rattle.clap.specs.Words.{found_of, rows_of, one_of}
 use Rattle.clap.proofs.WalkLemmas.{one_text-rows}

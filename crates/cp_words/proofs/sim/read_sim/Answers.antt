@@ -1,4 +1,4 @@
-use Rattle.std.proofs.Common.{◌≡◌, ◌∙◌, List, ℕ, [], ◌∷◌, Option, Some, is_some, map, codes, rules, ap, ap₂, sym}
+use Rattle.std.proofs.Common.{◌≡◌, ◌∙◌, [], ◌∷◌, is_some, map, codes, rules, ap, sym}
 use Rattle.clap.specs.Words.{found_of, rows_of}
 use Rattle.cp_words.proofs.Values.{sim_taken, sim_rows, sim_is, same_text}
 use Rattle.cp_words.proofs.sim.read_sim.Goals as goal
