@@ -4,3 +4,4 @@ pub mod Living
 pub mod Replying
 pub mod Turning
 pub mod Staying
+pub mod Calling

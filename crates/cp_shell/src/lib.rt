@@ -4,14 +4,20 @@
 mod advance;
 mod ask;
 mod ask_goal;
-mod drive;
+mod copy;
+mod due;
 mod end_goal;
+mod event;
 mod look;
+mod whole_turn;
+mod no_dialer;
 mod put_goal;
+mod remote_goal;
 mod stage;
 mod turn;
 
 pub use ask::ItemRoom;
-pub use drive::make_event;
+pub use whole_turn::make_turn;
+pub use no_dialer::NoDialer;
 pub use stage::Stage;
 pub use turn::Turn;
