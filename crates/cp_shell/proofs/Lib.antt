@@ -5,3 +5,4 @@ pub mod Replying
 pub mod Turning
 pub mod Staying
 pub mod Calling
+pub mod Resting

@@ -13,11 +13,13 @@ mod whole_turn;
 mod no_dialer;
 mod put_goal;
 mod remote_goal;
+mod shell;
 mod stage;
 mod turn;
 
 pub use ask::ItemRoom;
 pub use whole_turn::make_turn;
 pub use no_dialer::NoDialer;
+pub use shell::Shell;
 pub use stage::Stage;
 pub use turn::Turn;

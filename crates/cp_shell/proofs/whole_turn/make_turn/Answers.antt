@@ -1,11 +1,11 @@
-use Rattle.std.proofs.Common.{◌++◌, length}
+use Rattle.std.proofs.Common.{◌++◌, length, rules}
 use Rattle.cp_shell.proofs.Calling.{at_for, life_as, leads_on, leads_by_one, added_then, turned_then}
 use Rattle.cp_shell.proofs.whole_turn.make_turn.Goals as goal
 
 pub returns-in_err-call_due-in-None-clause-added : goal.returns-in_err-call_due-in-None-clause-added
 returns-in_err-call_due-in-None-clause-added g c =
     let whole = added_then (g.A.Asker.objects c.args.asker.now) (g.A.Asker.seen c.args.asker.now c.args.number) (g.A.Asker.seen c.make_event.new.asker c.args.number) (g.P.Writer.wrote c.args.port.now c.args.number) (g.P.Writer.wrote c.make_event.new.port c.args.number) c.args.number c.args.items.now.items c.make_event.new.items.items c.call_due.new.items.items c.in_ok-turn.ensures.added.0 c.in_err-call_due-in-None.ensures.called.0 c.in_ok-turn.ensures.added.1 c.in_ok-turn.ensures.added.2 c.in_err-call_due-in-None.ensures.called.1 c.in_err-call_due-in-None.ensures.called.2 in
-    (c.in_ok-turn.ensures.added.0 ++ c.in_err-call_due-in-None.ensures.called.0, whole.0, whole.1, tt)
+    (c.in_ok-turn.ensures.added.0 ++ c.in_err-call_due-in-None.ensures.called.0, whole.0, whole.1, search rules)
 
 pub returns-in_ok-call_due-in-None-clause-added : goal.returns-in_ok-call_due-in-None-clause-added
 returns-in_ok-call_due-in-None-clause-added g c =
