@@ -1,13 +1,7 @@
-// A library with one function.
+//! The simulator: the engines of a run on one thread, one turn at a time, in the order of a list or of a seed.
 #![tactic(auto)]
 
-ghost use Rattle.std.specs.Prelude.{◌≡◌};
-ghost use Rattle.cp_schedule.specs.Echo.{echo_of};
-
-// The `ensures` clause is the contract: what `echo` returns is `echo_of` of its argument, a definition
-// in `specs/Echo.antt`, which a caller's clause can cite too.
-pub fn echo(x: usize) -> usize
-    ensures { result ≡ echo_of x }
-{
-    x
+/// How many.
+pub fn probe() -> u32 {
+    1
 }
