@@ -2,3 +2,4 @@ pub mod Lists
 pub mod Histories
 pub mod GoingOn
 pub mod Turns
+pub mod Parking

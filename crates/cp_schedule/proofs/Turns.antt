@@ -1,6 +1,6 @@
 -- A turn of one shell comes later, and later moments of later moments are later.
 use Rattle.std.proofs.Common.{◌≡◌, ◌≢◌, ◌⊎◌, inl, inr, ℕ, zero, suc, ◌+◌, ◌<◌, ◌==◌, List, [], ◌∷◌, ◌++◌, length, refl, sym, ◌∙◌, ap, subst, Bool, true, false, Option, Some, None, append_assoc, arith}
-use Rattle.std.specs.Prelude.{map, slice_get, slice_set}
+use Rattle.std.specs.Prelude.{map, slice_get, slice_set, Result, Ok, Err, MatchResult}
 use Rattle.std.specs.List.{list_all}
 use Rattle.std.proofs.lemmas.Bool.{and_parts, and_from}
 use Rattle.std.proofs.lemmas.Bool.Decides.{eqb_tells}
@@ -15,14 +15,15 @@ use Rattle.cp_call.specs.Added.{HasAdded}
 use Rattle.cp_call.specs.Life as life
 use Rattle.cp_call.specs.Progress.{GoesOnBy, Pick}
 use Rattle.cp_call.specs.Running.{IsRunning}
-use Rattle.cp_call.specs.Sound.{Object, own_entries, own_writes, asked_entries, wrote_entries, has_failed, stays_failed}
+use Rattle.cp_call.specs.Sound.{Object, Going, own_entries, own_writes, asked_entries, wrote_entries, has_failed, stays_failed}
 use Rattle.cp_call.proofs.Adding.{IsPrefix_refl, IsPrefix_trans}
+use Rattle.cp_call.proofs.Going.{Going-events}
 use Rattle.cp_call.proofs.Running.{IsRunning-others}
 use Rattle.cp_shell.specs.Parked.{HasMade, HasMadeAtMost}
-use Rattle.cp_shell.specs.Shell.{ShellView}
+use Rattle.cp_shell.specs.Shell.{ShellView, HasTakenTurn}
 use Rattle.cp_shell.proofs.Resting.{runs_on}
 use Rattle.cp_hall.specs.Hall.{HallObject, objects_of, history_at, AreLegal}
-use Rattle.cp_schedule.specs.Record.{engine_now, pred_now, record_now, workers_setup, AreDriven, IsLater}
+use Rattle.cp_schedule.specs.Record.{engine_now, pred_now, record_now, workers_setup, AreDriven, IsReady, IsLater}
 use Rattle.cp_schedule.proofs.Lists.{append_nil, cancel, get_map, map_set, get_set, get_set_other, set_same, length_set, only_mine}
 use Rattle.cp_schedule.proofs.Histories.{same_hall, legal_before}
 use Rattle.cp_schedule.proofs.GoingOn.{Grows, grows_by, pick_at, with_events, turn_goes_on, goes_on-on}
@@ -177,3 +178,27 @@ turn_later {M} {Code} code asks shells i v w hall now port port_now there place 
   where
     t : TurnFacts (i + 1) hall now port port_now v.items w.items
     t = subst (λ n. TurnFacts n hall now port port_now v.items w.items) place facts
+
+-- a turn makes one event at most, also where memory stops it
+pub once_of : {E : Type 0} (r : Result Bool E) (objects : List Object) (seen : ℕ → List Entry) (n : ℕ) (before now : List Item)
+    → MatchResult r (λ b. HasTakenTurn objects seen n before now) (λ e. HasMadeAtMost before now) → HasMadeAtMost before now
+once_of (Ok b) objects seen n before now (inl made) = inr made
+once_of (Ok b) objects seen n before now (inr still) = inl still.2
+once_of (Err e) objects seen n before now h = h
+
+-- shells that are driven stay so
+pub ready_on : {M Code : Type 0} (code : M → Code) (asks : Code → life.Rule) (count : Code → ℕ) (s1 s2 : List (ShellView M)) (h1 h2 : List HallObject) (p1 p2 : List OutEntry)
+    → IsReady code asks count s1 h1 p1 → IsLater code asks s1 s2 h1 h2 p1 p2 → IsReady code asks count s2 h2 p2
+ready_on code asks count s1 s2 h1 h2 p1 p2 r later = record {
+  code_is = r.code_is;
+  driven = subst (λ os. AreDriven code asks r.code_is os s2 h2 p2) (sym later.objects) (later.driven r.code_is r.driven);
+  counts = r.counts ∙ ap (λ os. length os) (sym later.objects);
+}
+
+-- a record that is going stays so later
+pub going_later : {M Code : Type 0} (code : M → Code) (asks : Code → life.Rule) (s1 s2 : List (ShellView M)) (h1 h2 : List HallObject) (p1 p2 : List OutEntry) → IsLater code asks s1 s2 h1 h2 p1 p2
+    → (k : Code) (steps : ℕ) → AreDriven code asks k (objects_of h1) s1 h1 p1 → AreLegal h2 → stays_failed p2 ≡ true
+    → Going (workers_setup (asks k) (objects_of h1)) (record_now steps s1 h1 p1) → Going (workers_setup (asks k) (objects_of h1)) (record_now steps s2 h2 p2)
+going_later code asks s1 s2 h1 h2 p1 p2 later k steps d legal failed going =
+    let on = later.goes_on k steps d legal failed in
+    Going-events (workers_setup (asks k) (objects_of h1)) (record_now steps s1 h1 p1) on.0 (record_now steps s2 h2 p2) going on.1

@@ -45,6 +45,12 @@ pub record AreDriven {M Code : Type 0} (code : M → Code) (asks : Code → Rule
   pub objects_are : objects_of hall ≡ objects
   pub running : (i : ℕ) (s : ShellView M) → slice_get shells i ≡ Some s → IsRunning (asks k) objects (history_at hall) (own_writes (i + 1) port) (i + 1) s.items
 
+-- Shells of one code that is over the objects of the hall, which they drive.
+pub record IsReady {M Code : Type 0} (code : M → Code) (asks : Code → Rule) (count : Code → ℕ) (shells : List (ShellView M)) (hall : List HallObject) (port : List OutEntry) : Type 0 where
+  pub code_is : Code
+  pub driven : AreDriven code asks code_is (objects_of hall) shells hall port
+  pub counts : count code_is ≡ length (objects_of hall)
+
 -- These shells, hall and port come after those, over the same objects: each has grown at its end alone, the shells drive
 -- running workers if they did, and the record has gone on by events of its workers. That the histories are legal and that
 -- once a write has failed all have is told by hall and port at the end.
