@@ -9,14 +9,14 @@ use Rattle.cp_schedule.proofs.seat.take_turn.Goals as goal
 
 pub drive_one-requires-clause-running : goal.drive_one-requires-clause-running
 drive_one-requires-clause-running g c stopped =
-    let there : slice_get c.args.shells.now.items c.args.place ≡ Some c.index_mut-shell.result.now = slice_get_read c.args.shells.now.items c.args.shells.now.len c.args.place c.index_mut-shell.result.now (sym c.args.shells.now.ok.0) c.requires.within c.index_mut-shell.ensures.value in
+    let there : slice_get c.args.shells.now.items c.args.place ≡ Some c.index_mut-shell.result.now = slice_get_read c.args.shells.now.items c.args.shells.now.len c.args.place c.index_mut-shell.result.now c.args.shells.now.ok.0 c.requires.within c.index_mut-shell.ensures.value in
     subst (λ n. IsRunning (g.M.Rule.Asks.asks (g.M.Machine.code c.index_mut-shell.result.now.machine)) (objects_of c.args.hall.now) (history_at c.args.hall.now) (own_writes n c.args.port.now.entries) n c.index_mut-shell.result.now.items) (sym (c.requires.ready.driven.numbers c.args.place c.index_mut-shell.result.now there))
     (subst (λ k. IsRunning (g.M.Rule.Asks.asks k) (objects_of c.args.hall.now) (history_at c.args.hall.now) (own_writes (c.args.place + 1) c.args.port.now.entries) (c.args.place + 1) c.index_mut-shell.result.now.items) (sym (c.requires.ready.driven.codes c.args.place c.index_mut-shell.result.now there))
     (c.requires.ready.driven.running c.args.place c.index_mut-shell.result.now there))
 
 pub returns-clause-later : goal.returns-clause-later
 returns-clause-later g c =
-    let there : slice_get c.args.shells.now.items c.args.place ≡ Some c.index_mut-shell.result.now = slice_get_read c.args.shells.now.items c.args.shells.now.len c.args.place c.index_mut-shell.result.now (sym c.args.shells.now.ok.0) c.requires.within c.index_mut-shell.ensures.value in
+    let there : slice_get c.args.shells.now.items c.args.place ≡ Some c.index_mut-shell.result.now = slice_get_read c.args.shells.now.items c.args.shells.now.len c.args.place c.index_mut-shell.result.now c.args.shells.now.ok.0 c.requires.within c.index_mut-shell.ensures.value in
     turn_later g.M.Machine.code g.M.Rule.Asks.asks c.args.shells.now.items c.args.place c.index_mut-shell.result.now c.drive_one.new.self c.args.hall.now c.drive_one.new.asker c.args.port.now.entries c.drive_one.new.port.entries
     there (c.requires.ready.driven.numbers c.args.place c.index_mut-shell.result.now there) c.drive_one.ensures.number c.drive_one.ensures.code c.drive_one.ensures.life
     (record {
