@@ -115,11 +115,13 @@ called s steps engines engines_now n hall now port port_now p c r same g not_ful
     length_objects : (hall : List HallObject) → length (objects_of hall) ≡ length hall
     length_objects [] = refl
     length_objects (x ∷ hall) = ap suc (length_objects hall)
+
     here : history_at now p ≡ history_at hall p ++ record { caller = n; call = c; reply = r } ∷ []
     here = g.histories p ∙ ap (λ r. history_at hall p ++ r) (elim (eqb_tells p p) [
       | inl t ↦ ap (λ b. cond b (entry_unless_full n c r []) []) t.0 ∙ not_full
       | inr d ↦ absurd (d.1 refl)
     ])
+
     elsewhere : (q : ℕ) → p ≢ q → history_at now q ≡ history_at hall q
     elsewhere q d = elim (eqb_tells p q) [
       | inl t ↦ absurd (d t.1)
@@ -167,8 +169,10 @@ refused s steps engines engines_now n hall now port port_now p c limit same g =
     length_objects : (hall : List HallObject) → length (objects_of hall) ≡ length hall
     length_objects [] = refl
     length_objects (x ∷ hall) = ap suc (length_objects hall)
+
     none : (q : ℕ) → asked_entries n q (item.Asked p c (reply.Full limit.by limit.count) ∷ []) ≡ []
     none q = elim (p == q) as (λ b. cond b (entry_unless_full n c (reply.Full limit.by limit.count) []) [] ≡ []) [ true ↦ refl | false ↦ refl ]
+
     right : (o : Object) → slice_get (objects_of hall) p ≡ Some o → WasFullSince o (history_at hall p) (history_at now p) n [] c limit
     right o h = elim (eqb_tells p p) [
       | inl t ↦ subst (λ b. MatchBool b (IsRightSince o (history_at hall p) (history_at now p) n [] c (reply.Full limit.by limit.count)) (Unit {0})) t.0 (g.refusal p o h)
@@ -265,20 +269,21 @@ calls_go_on s before k e (c ∷ calls) there worker lives remote =
     let parts = and_parts (is_remote c) (list_all is_remote calls) remote in
     let between : Outcome = record before { engines = slice_set before.engines k (with_event e c) } in
     let rest = calls_go_on s between k (with_event e c) calls (get_set before.engines k e (with_event e c) there) worker
-        (subst (λ x. life.IsLifeFrom s.rule x calls) (sym (last_stage-push s.rule life.Idle e.items c)) lives.1) parts.1 in
+    (subst (λ x. life.IsLifeFrom s.rule x calls) (sym (last_stage-push s.rule life.Idle e.items c)) lives.1) parts.1 in
     let same : slice_set (slice_set before.engines k (with_event e c)) k (with_events (with_event e c) calls) ≡ slice_set before.engines k (with_events e (c ∷ calls))
-        = set_set before.engines k (with_event e c) (with_events (with_event e c) calls) ∙ ap (λ xs. slice_set before.engines k (record e { items = xs })) (append_assoc e.items (c ∷ []) calls) in
-    (
+    = set_set before.engines k (with_event e c) (with_events (with_event e c) calls) ∙ ap (λ xs. slice_set before.engines k (record e { items = xs })) (append_assoc e.items (c ∷ []) calls) in (
       between,
-      (record {
-        engine = e;
-        engine_at = there;
-        worker = worker;
-        due = lives.0;
-        engines = refl;
-        answered = call_answered s before between (k + 1) c parts.0 refl refl;
-      },
-      subst (λ xs. GoesOnBy s between (map (pick_at k) calls) (record before { engines = xs })) same rest),
+      (
+        record {
+          engine = e;
+          engine_at = there;
+          worker = worker;
+          due = lives.0;
+          engines = refl;
+          answered = call_answered s before between (k + 1) c parts.0 refl refl;
+        },
+        subst (λ xs. GoesOnBy s between (map (pick_at k) calls) (record before { engines = xs })) same rest,
+      ),
     )
 
 -- the events behind others of a life
@@ -298,11 +303,12 @@ turn_goes_on s steps engines k e i calls hall now port port_now same there worke
     let behind = life_behind s.rule life.Idle e.items (i ∷ calls) lives in
     let between : Outcome = record { steps = steps; engines = slice_set engines k (with_event e i); preds = map pred_now now; port = port_now } in
     let rest = calls_go_on s between k (with_event e i) calls (get_set engines k e (with_event e i) there) worker
-        (subst (λ x. life.IsLifeFrom s.rule x calls) (sym (last_stage-push s.rule life.Idle e.items i)) behind.1) remote in
+    (subst (λ x. life.IsLifeFrom s.rule x calls) (sym (last_stage-push s.rule life.Idle e.items i)) behind.1) remote in
     let whole : slice_set (slice_set engines k (with_event e i)) k (with_events (with_event e i) calls) ≡ slice_set engines k (with_events e (i ∷ calls))
-        = set_set engines k (with_event e i) (with_events (with_event e i) calls) ∙ ap (λ xs. slice_set engines k (record e { items = xs })) (append_assoc e.items (i ∷ []) calls) in
-    (
+    = set_set engines k (with_event e i) (with_events (with_event e i) calls) ∙ ap (λ xs. slice_set engines k (record e { items = xs })) (append_assoc e.items (i ∷ []) calls) in (
       between,
-      (event_goes_on s steps engines k e i hall now port port_now same there worker behind.0 g,
-      subst (λ xs. GoesOnBy s between (map (pick_at k) calls) (record { steps = steps; engines = xs; preds = map pred_now now; port = port_now })) whole rest),
+      (
+        event_goes_on s steps engines k e i hall now port port_now same there worker behind.0 g,
+        subst (λ xs. GoesOnBy s between (map (pick_at k) calls) (record { steps = steps; engines = xs; preds = map pred_now now; port = port_now })) whole rest,
+      ),
     )

@@ -93,8 +93,7 @@ legal_before [] now e grows l = tt
 legal_before (x ∷ hall) [] e grows l = let w : ⊥ = cc in absurd w
 legal_before (x ∷ hall) (o ∷ now) e grows l =
     let head : o.object ≡ x.object = cc in
-    let rest : objects_of now ≡ objects_of hall = cc in
-    (
+    let rest : objects_of now ≡ objects_of hall = cc in (
       legal_first x.object.kind x.object.opening [] x.history (grows 0).0
           (subst (λ (y : Object). Legal y.kind y.opening (x.history ++ (grows 0).0)) head (subst (λ h. Legal o.object.kind o.object.opening h) (grows 0).1 l.0)),
       legal_before hall now rest (λ q. grows (suc q)) l.1,

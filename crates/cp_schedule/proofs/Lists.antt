@@ -90,5 +90,6 @@ only_mine {E} by n xs ys mine grows others own_is =
   where
     split : (m : ℕ) → own by m ys ≡ own by m xs ++ own by m grows.0
     split m = ap (own by m) grows.1 ∙ filter-append (λ (e : E). by e == m) xs grows.0
+
     none : (m : ℕ) → m ≢ n → own by m grows.0 ≡ []
     none m d = cancel (own by m xs) (own by m grows.0) [] (sym (split m) ∙ (others m d ∙ sym (append_nil (own by m xs))))

@@ -64,11 +64,12 @@ later_on {M} {Code} code asks s1 s2 s3 h1 h2 h3 p1 p2 p3 a b = record {
   port_grows = IsPrefix_trans p1 p2 p3 a.port_grows b.port_grows;
   driven = λ k d. subst (λ os. AreDriven code asks k os s3 h3 p3) a.objects (b.driven k (between k d));
   goes_on = λ k steps d l f.
-    let first = a.goes_on k steps d (legal_before h2 h3 b.objects b.grows l) (failed_at p2 p3 b.port_grows f) in
-    let second = b.goes_on k steps (between k d) l f in
-    (first.0 ++ second.0,
-    goes_on-on (workers_setup (asks k) (objects_of h1)) (record_now steps s1 h1 p1) (record_now steps s2 h2 p2) (record_now steps s3 h3 p3) first.0 second.0 first.1
-    (subst (λ os. GoesOnBy (workers_setup (asks k) os) (record_now steps s2 h2 p2) second.0 (record_now steps s3 h3 p3)) a.objects second.1));
+      let first = a.goes_on k steps d (legal_before h2 h3 b.objects b.grows l) (failed_at p2 p3 b.port_grows f) in
+      let second = b.goes_on k steps (between k d) l f in (
+        first.0 ++ second.0,
+        goes_on-on (workers_setup (asks k) (objects_of h1)) (record_now steps s1 h1 p1) (record_now steps s2 h2 p2) (record_now steps s3 h3 p3) first.0 second.0 first.1
+            (subst (λ os. GoesOnBy (workers_setup (asks k) os) (record_now steps s2 h2 p2) second.0 (record_now steps s3 h3 p3)) a.objects second.1),
+      );
 }
   where
     between : (k : Code) → AreDriven code asks k (objects_of h1) s1 h1 p1 → AreDriven code asks k (objects_of h2) s2 h2 p2
@@ -130,12 +131,12 @@ idle_on {M} steps shells i v w hall now port port_now there number same t =
     let none : [] ≡ t.added = cancel v.items [] t.added (append_nil v.items ∙ (sym same ∙ t.is)) in
     let asked : (q : ℕ) → asked_entries (i + 1) q t.added ≡ [] = λ q. ap (asked_entries (i + 1) q) (sym none) in
     let kept : now ≡ hall = same_hall hall now t.objects (λ q. only_mine (λ (e : Entry). e.caller) (i + 1) (history_at hall q) (history_at now q) [] (t.has.grows q) (λ m d. t.others m q d)
-        (t.has.asked q ∙ ap (λ r. own_entries (i + 1) (history_at hall q) ++ r) (asked q)) ∙ append_nil (history_at hall q)) in
+    (t.has.asked q ∙ ap (λ r. own_entries (i + 1) (history_at hall q) ++ r) (asked q)) ∙ append_nil (history_at hall q)) in
     let port_kept : port_now ≡ port = only_mine (λ (x : OutEntry). x.engine) (i + 1) port port_now [] t.port_grows t.writers
-        (t.has.writes ∙ ap (λ r. own_writes (i + 1) port ++ r) (ap (wrote_entries (i + 1)) (sym none))) ∙ append_nil port in
+    (t.has.writes ∙ ap (λ r. own_writes (i + 1) port ++ r) (ap (wrote_entries (i + 1)) (sym none))) ∙ append_nil port in
     let engine : engine_now w ≡ engine_now v = ap (λ n. record { number = n; items = w.items; stand = (engine_now v).stand }) number ∙ ap (λ xs. record { number = v.number; items = xs; stand = (engine_now v).stand }) same in
     let engines : map engine_now shells ≡ map engine_now (slice_set shells i w) =
-      sym (map_set engine_now shells i w ∙ (ap (slice_set (map engine_now shells) i) engine ∙ set_same (map engine_now shells) i (engine_now v) (get_map engine_now shells i v there))) in
+    sym (map_set engine_now shells i w ∙ (ap (slice_set (map engine_now shells) i) engine ∙ set_same (map engine_now shells) i (engine_now v) (get_map engine_now shells i v there))) in
     ap (λ es. record { steps = steps; engines = es; preds = map pred_now hall; port = port }) engines
     ∙ (ap (λ h. record { steps = steps; engines = map engine_now (slice_set shells i w); preds = map pred_now h; port = port }) (sym kept)
     ∙ ap (λ p. record { steps = steps; engines = map engine_now (slice_set shells i w); preds = map pred_now now; port = p }) (sym port_kept))
@@ -148,9 +149,9 @@ made_on {M} rule steps shells i v w hall now port port_now there number lives ma
     let has = subst (λ xs. HasAdded (objects_of hall) (history_at hall) (history_at now) (own_writes (i + 1) port) (own_writes (i + 1) port_now) (i + 1) xs) (sym added) t.has in
     let g = grows_by (i + 1) hall now port port_now made.event made.calls t.objects has t.others t.port_grows t.writers made.remote failed legal in
     let engine : with_events (engine_now v) (made.event ∷ made.calls) ≡ engine_now w =
-      ap (λ n. record { number = n; items = v.items ++ made.event ∷ made.calls; stand = (engine_now v).stand }) (sym number) ∙ ap (λ xs. record { number = w.number; items = xs; stand = (engine_now v).stand }) (sym made.added) in
+    ap (λ n. record { number = n; items = v.items ++ made.event ∷ made.calls; stand = (engine_now v).stand }) (sym number) ∙ ap (λ xs. record { number = w.number; items = xs; stand = (engine_now v).stand }) (sym made.added) in
     let engines : slice_set (map engine_now shells) i (with_events (engine_now v) (made.event ∷ made.calls)) ≡ map engine_now (slice_set shells i w) =
-      ap (slice_set (map engine_now shells) i) engine ∙ sym (map_set engine_now shells i w) in
+    ap (slice_set (map engine_now shells) i) engine ∙ sym (map_set engine_now shells i w) in
     subst (λ es. GoesOnBy (workers_setup rule (objects_of hall)) (record_now steps shells hall port) (map (pick_at i) (made.event ∷ made.calls)) (record { steps = steps; engines = es; preds = map pred_now now; port = port_now })) engines
     (turn_goes_on (workers_setup rule (objects_of hall)) steps (map engine_now shells) i (engine_now v) made.event made.calls hall now port port_now refl (get_map engine_now shells i v there) refl
     (subst (λ xs. life.IsWorkersLife rule xs) made.added lives) made.remote g)

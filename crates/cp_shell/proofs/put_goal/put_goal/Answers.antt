@@ -49,9 +49,15 @@ pub returns-in_err-reply-clause-once : goal.returns-in_err-reply-clause-once
 returns-in_err-reply-clause-once g c = inl c.reserve.ensures.items
 
 pub returns-clause-once : goal.returns-clause-once
-returns-clause-once g c = inr (item.Wrote c.args.bytes c.in_ok-reply.reply,
-    c.put.ensures.items ∙ ap (λ x. x ++ item.Wrote c.args.bytes c.in_ok-reply.reply ∷ []) c.reserve.ensures.items, refl)
+returns-clause-once g c = inr (
+  item.Wrote c.args.bytes c.in_ok-reply.reply,
+  c.put.ensures.items ∙ ap (λ x. x ++ item.Wrote c.args.bytes c.in_ok-reply.reply ∷ []) c.reserve.ensures.items,
+  refl,
+)
 
 pub returns-in_err-stage-clause-once : goal.returns-in_err-stage-clause-once
-returns-in_err-stage-clause-once g c = inr (item.Wrote c.args.bytes c.in_ok-reply.reply,
-    c.put.ensures.items ∙ ap (λ x. x ++ item.Wrote c.args.bytes c.in_ok-reply.reply ∷ []) c.reserve.ensures.items, refl)
+returns-in_err-stage-clause-once g c = inr (
+  item.Wrote c.args.bytes c.in_ok-reply.reply,
+  c.put.ensures.items ∙ ap (λ x. x ++ item.Wrote c.args.bytes c.in_ok-reply.reply ∷ []) c.reserve.ensures.items,
+  refl,
+)

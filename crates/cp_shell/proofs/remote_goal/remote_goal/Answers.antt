@@ -23,5 +23,5 @@ returns-clause-at g c = if_ok c.hand.result c.hand.ensures.at (λ stage h.
     c.requires.at
     (c.put.ensures.items ∙ ap (λ x. x ++ item.Remote c.args.call c.in_ok-reply.reply ∷ []) c.in_ok-reserve.ensures.items)
     (λ goal inputs follows.
-      subst (λ r. IsAt (g.M.Rule.Asks.asks (g.M.Machine.code c.args.machine.now)) (g.M.Rule.Asks.objects (g.M.Machine.code c.args.machine.now)) (g.M.Machine.continuation c.hand.new.machine) (g.M.Machine.failed c.hand.new.machine) (life.runs_on (g.M.Rule.Asks.asks (g.M.Machine.code c.args.machine.now)) c.args.goal goal (inputs ++ input.Remote r ∷ [])) stage) c.in_ok-copy.ensures
-      (subst (λ k. IsAt (g.M.Rule.Asks.asks (g.M.Machine.code c.args.machine.now)) (g.M.Rule.Asks.objects (g.M.Machine.code c.args.machine.now)) (g.M.Machine.continuation c.hand.new.machine) (g.M.Machine.failed c.hand.new.machine) (life.runs_on (g.M.Rule.Asks.asks (g.M.Machine.code c.args.machine.now)) k goal (inputs ++ input.Remote c.in_ok-copy.field-0 ∷ [])) stage) (to_z-of_z w64 c.args.goal c.ranges.goal) (h goal inputs follows))))
+    subst (λ r. IsAt (g.M.Rule.Asks.asks (g.M.Machine.code c.args.machine.now)) (g.M.Rule.Asks.objects (g.M.Machine.code c.args.machine.now)) (g.M.Machine.continuation c.hand.new.machine) (g.M.Machine.failed c.hand.new.machine) (life.runs_on (g.M.Rule.Asks.asks (g.M.Machine.code c.args.machine.now)) c.args.goal goal (inputs ++ input.Remote r ∷ [])) stage) c.in_ok-copy.ensures
+    (subst (λ k. IsAt (g.M.Rule.Asks.asks (g.M.Machine.code c.args.machine.now)) (g.M.Rule.Asks.objects (g.M.Machine.code c.args.machine.now)) (g.M.Machine.continuation c.hand.new.machine) (g.M.Machine.failed c.hand.new.machine) (life.runs_on (g.M.Rule.Asks.asks (g.M.Machine.code c.args.machine.now)) k goal (inputs ++ input.Remote c.in_ok-copy.field-0 ∷ [])) stage) (to_z-of_z w64 c.args.goal c.ranges.goal) (h goal inputs follows))))

@@ -9,8 +9,7 @@ returns-in_err-call_due-in-None-clause-added g c =
 
 pub returns-in_ok-call_due-in-None-clause-added : goal.returns-in_ok-call_due-in-None-clause-added
 returns-in_ok-call_due-in-None-clause-added g c =
-    let whole = added_then (g.A.Asker.objects c.args.asker.now) (g.A.Asker.seen c.args.asker.now c.args.number) (g.A.Asker.seen c.make_event.new.asker c.args.number) (g.P.Writer.wrote c.args.port.now c.args.number) (g.P.Writer.wrote c.make_event.new.port c.args.number) c.args.number c.args.items.now.items c.make_event.new.items.items c.call_due.new.items.items c.in_ok-turn.ensures.added.0 c.in_ok-call_due-in-None.ensures.called.0 c.in_ok-turn.ensures.added.1 c.in_ok-turn.ensures.added.2 c.in_ok-call_due-in-None.ensures.called.1 c.in_ok-call_due-in-None.ensures.called.2 in
-    (
+    let whole = added_then (g.A.Asker.objects c.args.asker.now) (g.A.Asker.seen c.args.asker.now c.args.number) (g.A.Asker.seen c.make_event.new.asker c.args.number) (g.P.Writer.wrote c.args.port.now c.args.number) (g.P.Writer.wrote c.make_event.new.port c.args.number) c.args.number c.args.items.now.items c.make_event.new.items.items c.call_due.new.items.items c.in_ok-turn.ensures.added.0 c.in_ok-call_due-in-None.ensures.called.0 c.in_ok-turn.ensures.added.1 c.in_ok-turn.ensures.added.2 c.in_ok-call_due-in-None.ensures.called.1 c.in_ok-call_due-in-None.ensures.called.2 in (
       c.in_ok-turn.ensures.added.0 ++ c.in_ok-call_due-in-None.ensures.called.0,
       whole.0,
       whole.1,
