@@ -13,9 +13,9 @@ use Rattle.cp_shell.specs.Stage.{IsAt, stage_with}
 at_stage : (rule : life.Rule) (objects : ℕ) (continuation : List Input → Next) (failed : Bool) (number : ℤ) (goal : List Cell) (inputs : List Input) (n : Next)
     → n ≡ continuation [] → ((more : List Input) → continuation more ≡ rule goal (inputs ++ more)) → failed ≡ false → IsInForm objects n
     → IsAt rule objects continuation failed (life.stage_at number goal inputs n) (stage_with number n)
-at_stage rule objects continuation failed number goal inputs (next.Ask object call) e g w f = record { goal = goal; inputs = inputs; stage = refl; request_is = e; goes_on = g; works = w; in_form = f }
-at_stage rule objects continuation failed number goal inputs (next.Put bytes) e g w f = record { goal = goal; inputs = inputs; stage = refl; request_is = e; goes_on = g; works = w; in_form = f }
-at_stage rule objects continuation failed number goal inputs (next.Remote call) e g w f = record { goal = goal; inputs = inputs; stage = refl; request_is = e; goes_on = g; works = w; in_form = f }
+at_stage rule objects continuation failed number goal inputs (next.Ask object call) e g w f = record { goal = goal; inputs = inputs; stage = refl; request_is = e; goes_on = g; works = w; in_form = f; asking = tt }
+at_stage rule objects continuation failed number goal inputs (next.Put bytes) e g w f = record { goal = goal; inputs = inputs; stage = refl; request_is = e; goes_on = g; works = w; in_form = f; asking = tt }
+at_stage rule objects continuation failed number goal inputs (next.Remote call) e g w f = record { goal = goal; inputs = inputs; stage = refl; request_is = e; goes_on = g; works = w; in_form = f; asking = tt }
 at_stage rule objects continuation failed number goal inputs (next.Answer answer) e g w f = refl
 at_stage rule objects continuation failed number goal inputs (next.End how) e g w f = refl
 

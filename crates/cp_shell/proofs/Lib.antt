@@ -4,3 +4,5 @@ pub mod Living
 pub mod Replying
 pub mod Turning
 pub mod Staying
+pub mod Calling
+pub mod Resting

@@ -10,6 +10,8 @@ use Rattle.cp_call.specs.declared.item.Input.{Input}
 use Rattle.cp_call.specs.declared.item.Next.{Next}
 use Rattle.cp_call.specs.declared.item.Next.TheVariants as next
 use Rattle.cp_call.specs.declared.item.PutReply.{PutReply}
+use Rattle.cp_call.specs.declared.item.RemoteCall.{RemoteCall}
+use Rattle.cp_call.specs.declared.item.RemoteReply.{RemoteReply}
 use Rattle.cp_call.specs.Life as life
 use Rattle.cp_call.proofs.Growing.{IsWorkersLife-push}
 use Rattle.cp_shell.specs.Asked.{HasAskedOnce}
@@ -41,3 +43,10 @@ pub lives_by_put : (rule : life.Rule) (count : ℕ) (continuation : List Input �
     → now ≡ before ++ item.Wrote bytes r ∷ [] → life.IsWorkersLife rule before → life.IsWorkersLife rule now
 lives_by_put rule count continuation failed before now number bytes r running is l =
     subst (λ x. life.IsWorkersLife rule x) (sym is) (IsWorkersLife-push rule before (item.Wrote bytes r) l (ap life.request_at running.stage))
+
+-- a goal made a remote call
+pub lives_by_call : (rule : life.Rule) (count : ℕ) (continuation : List Input → Next) (failed : Bool) (before now : List Item) (number : ℤ) (c : RemoteCall) (r : RemoteReply)
+    → IsRunningGoal rule count continuation failed (life.last_stage rule life.Idle before) number (next.Remote c)
+    → now ≡ before ++ item.Remote c r ∷ [] → life.IsWorkersLife rule before → life.IsWorkersLife rule now
+lives_by_call rule count continuation failed before now number c r running is l =
+    subst (λ x. life.IsWorkersLife rule x) (sym is) (IsWorkersLife-push rule before (item.Remote c r) l (ap life.request_at running.stage))

@@ -10,7 +10,7 @@ use Rattle.cp_call.specs.Life as life
 use Rattle.cp_shell.specs.declared.stage.Stage.{Stage}
 use Rattle.cp_shell.specs.declared.stage.Stage.TheVariants as stage
 use Rattle.cp_shell.specs.Stage.{IsAt, IsRunningGoal}
-use Rattle.cp_shell.specs.Turn.{is_parking}
+use Rattle.cp_shell.specs.Parked.{is_parking}
 
 pub no_parking : (r : Reply) → is_parking r ≡ false → r ≢ reply.Parked
 no_parking r h e = let z : true ≡ false = subst (λ x. is_parking x ≡ false) e h in cc

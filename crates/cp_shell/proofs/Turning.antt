@@ -20,8 +20,9 @@ use Rattle.cp_call.specs.Sound.{Object}
 use Rattle.cp_call.proofs.Growing.{IsWorkersLife-push}
 use Rattle.cp_shell.specs.declared.stage.Stage.{Stage}
 use Rattle.cp_shell.specs.Stage.{IsAt, IsRunningGoal}
-use Rattle.cp_shell.specs.Asked.{StillWaits}
-use Rattle.cp_shell.specs.Turn.{is_parking, parked_at, after_answer, IsParkedAt, HasTurned}
+use Rattle.cp_shell.specs.Asked.{HasAskedOnce, StillWaits}
+use Rattle.cp_shell.specs.Parked.{is_parking, parked_by, HasMadeOne, HasMade}
+use Rattle.cp_shell.specs.Turn.{parked_at, after_answer, HasGone, IsParkedAt, HasTurned}
 
 pub last_stage-push : (rule : life.Rule) (s : life.WorkerStage) (items : List Item) (i : Item) → life.last_stage rule s (items ++ i ∷ []) ≡ life.stage_after rule (life.last_stage rule s items) i
 last_stage-push rule s [] i = refl
@@ -45,7 +46,7 @@ pub turned_by_event : (rule : life.Rule) (objects : List Object) (continuation :
     → life.IsRequest (life.pending_request rule before) i
     → now ≡ before ++ i ∷ []
     → IsAt rule (length objects) continuation failed (life.stage_after rule (life.last_stage rule life.Idle before) i) stage
-    → MatchOption parked ((k : Item) × (now ≡ before ++ k ∷ [])) (IsParkedAt objects seen n before now)
+    → MatchOption parked (HasGone before now) (IsParkedAt rule objects seen n before now)
     → HasTurned rule objects continuation failed before now seen n stage parked
 turned_by_event rule objects continuation failed before now seen n i stage parked request is at event = record {
   event = event;
@@ -54,11 +55,34 @@ turned_by_event rule objects continuation failed before now seen n i stage parke
   life = λ l. subst (λ x. life.IsWorkersLife rule x) (sym is) (IsWorkersLife-push rule before i l request);
 }
 
+gone_by : (before now : List Item) (i : Item) → now ≡ before ++ i ∷ [] → parked_by i ≡ None → HasGone before now
+gone_by before now i is awake = record { made = record { event = i; calls = []; added = is; remote = refl }; awake = awake }
+
+-- asking an object makes one event at most
+pub made_by_asking : (before now : List Item) (p : ℕ) (c : Call) → HasAskedOnce before now p c → HasMadeOne before now
+made_by_asking before now p c (inl same) = inl same
+made_by_asking before now p c (inr more) = inr (item.Asked p c more.0, more.1, refl)
+
+replied_same : (rule : life.Rule) (s : life.WorkerStage) → life.request_at (life.replied rule s reply.Parked) ≡ life.request_at s
+replied_same rule life.Idle = refl
+replied_same rule (life.Runs number goal inputs request) = refl
+replied_same rule (life.Ends number end) = refl
+
+-- a worker that was parked asks the same again
+pending_parked : (rule : life.Rule) (before : List Item) (p : ℕ) (c : Call) → life.pending_request rule (before ++ item.Asked p c reply.Parked ∷ []) ≡ life.pending_request rule before
+pending_parked rule before p c = ap life.request_at (last_stage-push rule life.Idle before (item.Asked p c reply.Parked)) ∙ replied_same rule (life.last_stage rule life.Idle before)
+
 -- the event of a reply leaves the engine where the reply says
-event_of_reply : (objects : List Object) (before now : List Item) (seen : ℕ → List Entry) (n p : ℕ) (c : Call) (r : Reply) (b : Bool) → is_parking r ≡ b → now ≡ before ++ item.Asked p c r ∷ []
-    → MatchOption (cond b (Some p) None) ((k : Item) × (now ≡ before ++ k ∷ [])) (IsParkedAt objects seen n before now)
-event_of_reply objects before now seen n p c r true h is = (c, inl (is ∙ ap (λ x. before ++ item.Asked p c x ∷ []) (parking_is r h)))
-event_of_reply objects before now seen n p c r false h is = (item.Asked p c r, is)
+event_of_reply : (rule : life.Rule) (objects : List Object) (before now : List Item) (seen : ℕ → List Entry) (n p : ℕ) (c : Call) (r : Reply) (b : Bool) → life.pending_request rule before ≡ next.Ask p c → is_parking r ≡ b → now ≡ before ++ item.Asked p c r ∷ []
+    → MatchOption (cond b (Some p) None) (HasGone before now) (IsParkedAt rule objects seen n before now)
+event_of_reply rule objects before now seen n p c r true pending h is =
+    let parked : now ≡ before ++ item.Asked p c reply.Parked ∷ [] = is ∙ ap (λ x. before ++ item.Asked p c x ∷ []) (parking_is r h) in
+    record {
+      call = c;
+      pending = ap (life.pending_request rule) parked ∙ (pending_parked rule before p c ∙ pending);
+      cause = inl parked;
+    }
+event_of_reply rule objects before now seen n p c r false pending h is = gone_by before now (item.Asked p c r) is (ap (λ b. cond b (Some p) None) h)
 
 -- a call was answered, or the engine still waits
 pub turned_by_answer : (rule : life.Rule) (objects : List Object) (continuation : List Input → Next) (failed : Bool) (before now : List Item) (seen : ℕ → List Entry) (n p : ℕ) (c : Call) (answer : Option Reply) (stage : Stage) (parked : Option ℕ)
@@ -69,14 +93,14 @@ pub turned_by_answer : (rule : life.Rule) (objects : List Object) (continuation 
     → parked ≡ parked_at p answer
     → HasTurned rule objects continuation failed before now seen n stage parked
 turned_by_answer rule objects continuation failed before now seen n p c None stage parked pending is still at parked_is = record {
-  event = subst (λ x. MatchOption x ((k : Item) × (now ≡ before ++ k ∷ [])) (IsParkedAt objects seen n before now)) (sym parked_is) (c, inr (is, still refl));
+  event = subst (λ x. MatchOption x (HasGone before now) (IsParkedAt rule objects seen n before now)) (sym parked_is) (record { call = c; pending = ap (life.pending_request rule) is ∙ pending; cause = inr (is, still refl) });
   at = subst (λ x. IsAt rule (length objects) continuation failed (life.last_stage rule life.Idle x) stage) (sym is) at;
   life = λ l. subst (λ x. life.IsWorkersLife rule x) (sym is) l;
 }
 turned_by_answer rule objects continuation failed before now seen n p c (Some r) stage parked pending is still at parked_is =
     turned_by_event rule objects continuation failed before now seen n (item.Asked p c r) stage parked pending is at
-    (subst (λ x. MatchOption x ((k : Item) × (now ≡ before ++ k ∷ [])) (IsParkedAt objects seen n before now)) (sym parked_is)
-    (event_of_reply objects before now seen n p c r (is_parking r) refl is))
+    (subst (λ x. MatchOption x (HasGone before now) (IsParkedAt rule objects seen n before now)) (sym parked_is)
+    (event_of_reply rule objects before now seen n p c r (is_parking r) pending refl is))
 
 -- what follows from two things that hold of a result holds of it too
 pub if_ok2 : {T E : Type 0} (r : Result T E) {A B C : T → Type 0} → IfOk r A → IfOk r B → ((x : T) → A x → B x → C x) → IfOk r C
@@ -142,4 +166,4 @@ turned_by_put rule count objects was_continuation continuation was_failed failed
     (ap life.request_at running.stage) is
     (subst (λ s. IsAt rule (length objects) continuation failed (life.handed rule s (input.Put r)) stage) (sym running.stage)
     (subst (λ k. IsAt rule k continuation failed (life.runs_on rule number running.goal (running.inputs ++ input.Put r ∷ [])) stage) same (at running.goal running.inputs running.goes_on)))
-    (item.Wrote bytes r, is)
+    (gone_by before now (item.Wrote bytes r) is refl)

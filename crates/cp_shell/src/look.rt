@@ -4,6 +4,7 @@ ghost use Rattle.cp_call.specs.declared.item.Item.{Item};
 ghost use Rattle.cp_call.specs.declared.outcome.OutEntry.{OutEntry};
 ghost use Rattle.cp_call.specs.Added.{HasAdded, AsksForOne};
 ghost use Rattle.cp_call.specs.Life as life;
+ghost use Rattle.cp_shell.specs.Parked.{HasMadeOne};
 ghost use Rattle.cp_shell.specs.Turn.{HasTurned};
 
 use crate::ask::{ItemRoom, ask};
@@ -27,6 +28,7 @@ pub(crate) fn look<M: Machine, A: Asker>(
     ensures code { M.code machine.new ≡ M.code machine.old }
     ensures added { (wrote : List OutEntry) → (added : List Item) × (items.new.items ≡ items.old.items ++ added) × HasAdded (A.objects asker.old) (A.seen asker.old number) (A.seen asker.new number) wrote wrote number added }
     ensures life { life.IsWorkersLife (M.Rule.asks (M.code machine.old)) items.old.items → life.IsWorkersLife (M.Rule.asks (M.code machine.old)) items.new.items }
+    ensures once { HasMadeOne items.old.items items.new.items }
     ensures turned { IfOk result (λ turn. HasTurned (M.Rule.asks (M.code machine.old)) (A.objects asker.old) (M.continuation machine.new) (M.failed machine.new) items.old.items items.new.items (A.seen asker.new number) number turn.stage turn.parked) }
     ensures others { AsksForOne number (A.objects asker.old) (A.objects asker.new) (A.serves asker.old) (A.serves asker.new) (A.seen asker.old) (A.seen asker.new) (A.looked asker.old) (A.looked asker.new) }
     ensures stays { A.stays asker.old asker.new }

@@ -6,6 +6,7 @@ ghost use Rattle.cp_call.specs.Added.{HasAdded, WritesForOne};
 ghost use Rattle.cp_call.specs.Life as life;
 ghost use Rattle.cp_call.specs.Sound.{Object};
 ghost use Rattle.cp_shell.specs.Stage.{IsRunningGoal};
+ghost use Rattle.cp_shell.specs.Parked.{HasMadeOne};
 ghost use Rattle.cp_shell.specs.Turn.{HasTurned};
 
 use crate::advance::hand;
@@ -30,6 +31,7 @@ pub(crate) fn put_goal<M: Machine, P: Writer>(
     ensures code { M.code machine.new ≡ M.code machine.old }
     ensures added { (objects : List Object) (seen : ℕ → List Entry) → (added : List Item) × (items.new.items ≡ items.old.items ++ added) × HasAdded objects seen seen (P.wrote port.old number) (P.wrote port.new number) number added }
     ensures life { life.IsWorkersLife (M.Rule.asks (M.code machine.old)) items.old.items → life.IsWorkersLife (M.Rule.asks (M.code machine.old)) items.new.items }
+    ensures once { HasMadeOne items.old.items items.new.items }
     ensures turned { IfOk result (λ turn. (objects : List Object) (seen : ℕ → List Entry) → M.Rule.objects (M.code machine.old) ≡ length objects → HasTurned (M.Rule.asks (M.code machine.old)) objects (M.continuation machine.new) (M.failed machine.new) items.old.items items.new.items seen number turn.stage turn.parked) }
     ensures others { WritesForOne number (P.serves port.old) (P.serves port.new) (P.wrote port.old) (P.wrote port.new) }
     ensures stays { P.stays port.old port.new }

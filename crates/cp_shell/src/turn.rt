@@ -10,7 +10,8 @@ ghost use Rattle.cp_call.specs.declared.outcome.OutEntry.{OutEntry};
 ghost use Rattle.cp_call.specs.Added.{HasAdded, AsksForOne, WritesForOne};
 ghost use Rattle.cp_call.specs.Life as life;
 ghost use Rattle.cp_shell.specs.Stage.{IsAt, IsRunningGoal};
-ghost use Rattle.cp_shell.specs.Turn.{after_answer, is_parking, parked_at};
+ghost use Rattle.cp_shell.specs.Parked.{is_parking};
+ghost use Rattle.cp_shell.specs.Turn.{after_answer, parked_at};
 
 use crate::advance::{hand, start};
 use crate::stage::Stage;

@@ -25,37 +25,19 @@ use Rattle.cp_call.specs.Running.{IsRunning}
 use Rattle.cp_call.specs.Sound.{Object, own_entries, asked_entries, AgreeOn, AgreeFrom, IsKept, AreKept, EndsParkedOn, is_parked_on, is_of_objects}
 use Rattle.cp_call.specs.Sound as sound
 use Rattle.cp_call.proofs.Growing.{asked_entries-append, state_after-push}
-use Rattle.cp_call.proofs.Resting.{own_head, waiting_rests}
+use Rattle.cp_call.proofs.Resting.{own_head}
 use Rattle.cp_hall.specs.Hall.{HallObject, objects_of, history_at}
-use Rattle.cp_shell.specs.Asked.{StillWaits}
 use Rattle.cp_shell.specs.declared.stage.Stage.{Stage}
-use Rattle.cp_shell.specs.Turn.{IsParkedAt, HasTurned}
+use Rattle.cp_shell.specs.Turn.{HasGone, IsParkedAt, HasTurned}
+use Rattle.cp_shell.proofs.Resting.{rests_after}
 use Rattle.cp_sim.specs.Ended.{RestsOn}
 use Rattle.cp_sim.proofs.Sounding.{ends_at}
 
--- what an engine tells of one object
-agree_at : (q : ℕ) (os : List Object) (h : ℕ → List Entry) (n : ℕ) (items : List Item) (k : ℕ) (o : Object) (p : ℕ) → AgreeFrom q os h n items → slice_get os k ≡ Some o → p ≡ q + k → AgreeOn o p (h p) n items
-agree_at q [] h n items k o p a e is = absurd (let z : ⊥ = cc in z)
-agree_at q (x ∷ os) h n items zero o p a e is =
-    let here : p ≡ q = omega (arith, is) in
-    let same : x ≡ o = cc in
-    subst (λ y. AgreeOn y p (h p) n items) same (subst (λ i. AgreeOn x i (h i) n items) (sym here) a.0)
-agree_at q (x ∷ os) h n items (suc k) o p a e is = agree_at (q + 1) os h n items k o p a.1 e (omega (arith, is))
-
 -- An engine that is parked after an event was parked by its last event.
-rests_after : (rule : Rule) (objects : List Object) (seen : ℕ → List Entry) (wrote : List OutEntry) (n : ℕ) (before now : List Item) (p : ℕ) → IsParkedAt objects seen n before now p → IsRunning rule objects seen wrote n now → EndsParkedOn p now
-rests_after rule objects seen wrote n before now p (c, inl is) running = (before, c, is)
-rests_after rule objects seen wrote n before now p (c, inr still) running = by_object (slice_get objects p) refl still.1
-  where
-    by_object : (o : Option Object) → slice_get objects p ≡ o → StillWaits o (seen p) n c → EndsParkedOn p now
-    by_object None e s = absurd s
-    by_object (Some o) e s = waiting_rests rule o p (seen p) n now c running.life (agree_at 0 objects seen n now p o p running.agrees.asked e (omega arith)) s
-
--- the same of an event that says where the engine is parked
 pub rests_turned : (rule : Rule) (objects : List Object) (continuation : List Input → Next) (failed : Bool) (before now : List Item) (seen : ℕ → List Entry) (wrote : List OutEntry) (n : ℕ) (stage : Stage) (parked : Option ℕ) (p : ℕ)
     → HasTurned rule objects continuation failed before now seen n stage parked → parked ≡ Some p → IsRunning rule objects seen wrote n now → EndsParkedOn p now
 rests_turned rule objects continuation failed before now seen wrote n stage parked p turned is running =
-    rests_after rule objects seen wrote n before now p (subst (λ o. MatchOption o ((i : Item) × (now ≡ before ++ i ∷ [])) (IsParkedAt objects seen n before now)) is turned.event) running
+    rests_after rule objects seen wrote n before now p (subst (λ o. MatchOption o (HasGone before now) (IsParkedAt rule objects seen n before now)) is turned.event) running
 
 any_last : (xs : List ParkedRow) (w : ParkedRow) (n : ℕ) → w.caller ≡ n → list_any (λ (v : ParkedRow). v.caller == n) (xs ++ w ∷ []) ≡ true
 any_last [] w n e = elim (eqb_tells w.caller n) [

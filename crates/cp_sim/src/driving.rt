@@ -6,7 +6,7 @@ ghost use Rattle.cp_call.specs.Running.{IsRunning};
 ghost use Rattle.cp_call.specs.Sound.{EndsParkedOn};
 
 use cp_call::{Asker, Machine, Writer};
-use cp_shell::{ItemRoom, Stage, Turn, make_event};
+use cp_shell::{ItemRoom, NoDialer, Stage, Turn, make_turn};
 use std::alloc::{AllocError, Global};
 
 fn forget(_stage: Stage) {}
@@ -36,8 +36,18 @@ pub fn drive<M: Machine, A: Asker, P: Writer>(
     ensures port { P.stays port.old port.new }
 {
     let mut stage = Stage::Idle;
+    let mut caller = NoDialer;
     for _ in 0..u32::MAX {
-        let turn = make_event(alloc, machine, stage, number, items, asker, port)?;
+        let turn = make_turn(
+            alloc,
+            machine,
+            stage,
+            number,
+            items,
+            asker,
+            port,
+            &mut caller,
+        )?;
         stage = turn.stage;
         if let Some(object) = turn.parked {
             forget(stage);

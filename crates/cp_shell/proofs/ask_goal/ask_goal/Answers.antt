@@ -4,7 +4,7 @@ use Rattle.cp_call.specs.declared.item.Next.TheVariants as next
 use Rattle.cp_call.specs.Life as life
 use Rattle.cp_shell.specs.Stage.{IsRunningGoal}
 use Rattle.cp_shell.proofs.Living.{lives_by_ask}
-use Rattle.cp_shell.proofs.Turning.{if_ok2, turned_by_ask}
+use Rattle.cp_shell.proofs.Turning.{made_by_asking, if_ok2, turned_by_ask}
 use Rattle.cp_shell.proofs.ask_goal.ask_goal.Goals as goal
 
 pub returns-in-Ok-clause-turned : goal.returns-in-Ok-clause-turned
@@ -19,3 +19,9 @@ returns-in-Ok-clause-life g c = lives_by_ask _ _ _ _ c.args.items.now.items _ _ 
 
 pub returns-in-Err-clause-life : goal.returns-in-Err-clause-life
 returns-in-Err-clause-life g c = lives_by_ask _ _ _ _ c.args.items.now.items _ _ _ _ c.requires.at c.ask.ensures.event
+
+pub returns-in-Ok-clause-once : goal.returns-in-Ok-clause-once
+returns-in-Ok-clause-once g c = made_by_asking c.args.items.now.items _ _ _ c.ask.ensures.event
+
+pub returns-in-Err-clause-once : goal.returns-in-Err-clause-once
+returns-in-Err-clause-once g c = made_by_asking c.args.items.now.items _ _ _ c.ask.ensures.event

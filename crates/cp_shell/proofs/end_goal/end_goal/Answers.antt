@@ -4,7 +4,7 @@ use Rattle.cp_call.specs.Life as life
 use Rattle.cp_shell.specs.Stage.{IsAt}
 use Rattle.cp_shell.specs.Turn.{after_answer}
 use Rattle.cp_shell.proofs.Living.{lives_by_end}
-use Rattle.cp_shell.proofs.Turning.{turned_by_end}
+use Rattle.cp_shell.proofs.Turning.{made_by_asking, turned_by_end}
 use Rattle.cp_shell.proofs.end_goal.end_goal.Goals as goal
 
 pub returns-clause-turned : goal.returns-clause-turned
@@ -25,3 +25,9 @@ returns-clause-life g c rule ends = lives_by_end rule c.args.items.now.items _ c
 pub returns-in_err-asked-clause-life : goal.returns-in_err-asked-clause-life
 returns-in_err-asked-clause-life g c rule ends = lives_by_end rule c.args.items.now.items _ c.args.goal c.args.end _ ends
     (c.in_ok-ended_term.ensures ∙ ap (λ k. life.ended_fact k c.args.end) (to_z-of_z w64 c.args.goal c.ranges.goal)) c.ask-asked.ensures.event
+
+pub returns-clause-once : goal.returns-clause-once
+returns-clause-once g c = made_by_asking c.args.items.now.items _ _ _ c.ask-asked.ensures.event
+
+pub returns-in_err-asked-clause-once : goal.returns-in_err-asked-clause-once
+returns-in_err-asked-clause-once g c = made_by_asking c.args.items.now.items _ _ _ c.ask-asked.ensures.event

@@ -1,5 +1,5 @@
 use Rattle.cp_shell.proofs.Living.{lives_by_look}
-use Rattle.cp_shell.proofs.Turning.{if_ok2, turned_by_look}
+use Rattle.cp_shell.proofs.Turning.{made_by_asking, if_ok2, turned_by_look}
 use Rattle.cp_shell.proofs.look.look.Goals as goal
 
 pub returns-clause-turned : goal.returns-clause-turned
@@ -12,3 +12,9 @@ returns-clause-life g c = lives_by_look (g.M.Rule.Asks.asks (g.M.Machine.code c.
 
 pub returns-in_err-asked-clause-life : goal.returns-in_err-asked-clause-life
 returns-in_err-asked-clause-life g c = lives_by_look (g.M.Rule.Asks.asks (g.M.Machine.code c.args.machine.now)) c.args.items.now.items _ _ c.in_ok-any_term.ensures c.requires.at c.ask-asked.ensures.event
+
+pub returns-clause-once : goal.returns-clause-once
+returns-clause-once g c = made_by_asking c.args.items.now.items _ _ _ c.ask-asked.ensures.event
+
+pub returns-in_err-asked-clause-once : goal.returns-in_err-asked-clause-once
+returns-in_err-asked-clause-once g c = made_by_asking c.args.items.now.items _ _ _ c.ask-asked.ensures.event

@@ -1,4 +1,4 @@
-use Rattle.std.proofs.Common.{◌∙◌, ap, sym, subst, w64, [], ◌∷◌, ◌++◌}
+use Rattle.std.proofs.Common.{refl, inl, inr, ◌∙◌, ap, sym, subst, w64, [], ◌∷◌, ◌++◌}
 use Rattle.std.proofs.lemmas.Int.{to_z-of_z}
 use Rattle.cp_call.specs.declared.item.Item.TheVariants as item
 use Rattle.cp_call.specs.declared.item.Input.TheVariants as input
@@ -41,3 +41,23 @@ returns-in_err-reserve-clause-life g c l = subst (λ x. life.IsWorkersLife (g.M.
 
 pub returns-in_err-reply-clause-life : goal.returns-in_err-reply-clause-life
 returns-in_err-reply-clause-life g c l = subst (λ x. life.IsWorkersLife (g.M.Rule.Asks.asks (g.M.Machine.code c.args.machine.now)) x) (sym c.reserve.ensures.items) l
+
+pub returns-in_err-reserve-clause-once : goal.returns-in_err-reserve-clause-once
+returns-in_err-reserve-clause-once g c = inl c.reserve.ensures.items
+
+pub returns-in_err-reply-clause-once : goal.returns-in_err-reply-clause-once
+returns-in_err-reply-clause-once g c = inl c.reserve.ensures.items
+
+pub returns-clause-once : goal.returns-clause-once
+returns-clause-once g c = inr (
+  item.Wrote c.args.bytes c.in_ok-reply.reply,
+  c.put.ensures.items ∙ ap (λ x. x ++ item.Wrote c.args.bytes c.in_ok-reply.reply ∷ []) c.reserve.ensures.items,
+  refl,
+)
+
+pub returns-in_err-stage-clause-once : goal.returns-in_err-stage-clause-once
+returns-in_err-stage-clause-once g c = inr (
+  item.Wrote c.args.bytes c.in_ok-reply.reply,
+  c.put.ensures.items ∙ ap (λ x. x ++ item.Wrote c.args.bytes c.in_ok-reply.reply ∷ []) c.reserve.ensures.items,
+  refl,
+)

@@ -1,29 +1,14 @@
-use Rattle.std.proofs.Common.{[], refl, ◌∙◌, sym, ap, subst, w64, rules}
+use Rattle.std.proofs.Common.{◌∙◌, sym, ap, subst, w64, rules}
 use Rattle.std.proofs.lemmas.Int.{to_z-of_z}
 use Rattle.cp_shell.specs.Stage.{IsAt}
 use Rattle.cp_call.specs.Life as life
-use Rattle.cp_call.proofs.Adding.{HasAdded-none}
 use Rattle.cp_shell.proofs.Advancing.{if_ok}
-use Rattle.cp_shell.proofs.Asking.{nothing}
-use Rattle.cp_shell.proofs.Staying.{asks_stays, writes_stays}
-use Rattle.cp_shell.proofs.drive.make_event.Goals as goal
+use Rattle.cp_shell.proofs.event.make_event.Goals as goal
 
 pub returns-in-Ends-clause-turned : goal.returns-in-Ends-clause-turned
 returns-in-Ends-clause-turned g c = if_ok c.end_goal.result c.end_goal.ensures.turned (λ turn h. h (g.M.Rule.Asks.asks (g.M.Machine.code c.args.machine.now)) (g.M.Machine.continuation c.args.machine.now) (g.M.Machine.failed c.args.machine.now)
     (subst (λ s. IsAt (g.M.Rule.Asks.asks (g.M.Machine.code c.args.machine.now)) (g.M.Rule.Asks.objects (g.M.Machine.code c.args.machine.now)) (g.M.Machine.continuation c.args.machine.now) (g.M.Machine.failed c.args.machine.now) (life.last_stage (g.M.Rule.Asks.asks (g.M.Machine.code c.args.machine.now)) life.Idle c.args.items.now.items) s) c.in-Ends.is c.requires.at
     ∙ ap (λ k. life.Ends k c.in-Ends.end) (sym (to_z-of_z w64 c.in-Ends.goal (search rules)))))
-
-pub returns : goal.returns
-returns g c = record {
-  code = refl;
-  added = ([], nothing _, HasAdded-none _ _ _ _);
-  life = λ l. l;
-  turned = tt;
-  others = asks_stays _ _ _ _ _;
-  others_written = writes_stays _ _ _;
-  asker = g.met.A.Asker.stays_here _;
-  port = g.met.P.Writer.stays_here _;
-}
 
 pub returns-in-Ends-clause-life : goal.returns-in-Ends-clause-life
 returns-in-Ends-clause-life g c = c.end_goal.ensures.life (g.M.Rule.Asks.asks (g.M.Machine.code c.args.machine.now))

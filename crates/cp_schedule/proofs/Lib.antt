@@ -1,0 +1,5 @@
+pub mod Lists
+pub mod Histories
+pub mod GoingOn
+pub mod Turns
+pub mod Parking

@@ -1,0 +1,8 @@
+//! The simulator: the engines of a run on one thread, one turn at a time, in the order of a list or of a seed.
+#![tactic(auto)]
+
+mod awake;
+mod picks;
+mod seat;
+
+pub use picks::drive_picks;

@@ -1,0 +1,56 @@
+ghost use Rattle.std.specs.Prelude.{◌≡◌, true, ℕ, IfOk, length};
+ghost use Rattle.cp_call.specs.Sound.{Going, stays_failed};
+ghost use Rattle.cp_hall.specs.Hall.{objects_of, AreLegal};
+ghost use Rattle.cp_schedule.specs.Record.{AreDriven, IsReady, IsLater, record_now, workers_setup};
+
+use crate::awake::is_parked;
+use crate::seat::take_turn;
+use cp_call::Machine;
+use cp_hall::PlainHall;
+use cp_io::Sink;
+use cp_out::Port;
+use cp_shell::Shell;
+use std::alloc::AllocError;
+
+/// Drives the worker that a pick names by its number from 1, by one turn. A pick that names none, or one that is parked,
+/// does nothing.
+fn drive_pick<M: Machine, S: Sink>(
+    shells: &mut Vec<Shell<M>>,
+    pick: u32,
+    hall: &mut PlainHall,
+    port: &mut Port<S>,
+) -> Result<(), AllocError>
+    requires ready { IsReady M.code M.Rule.asks M.Rule.objects shells.old.items hall.old port.old.entries }
+    ensures later { IsLater M.code M.Rule.asks shells.old.items shells.new.items hall.old hall.new port.old.entries port.new.entries }
+    ensures first { port.new.first ≡ port.old.first }
+{
+    let number = pick as usize;
+    if number == 0 || shells.len() < number {
+        return Ok(());
+    }
+    if is_parked(&shells[number - 1], hall)? {
+        return Ok(());
+    }
+    let _parked = take_turn(shells, number - 1, hall, port)?;
+    Ok(())
+}
+
+/// Drives workers by a list of picks, one turn after another. Each pick is a worker's number from 1; one that names no
+/// worker, or a worker that is parked, does nothing. Whatever the picks, the record of the run is one that events of its
+/// workers have led to, and stays going.
+pub fn drive_picks<M: Machine, S: Sink>(
+    shells: &mut Vec<Shell<M>>,
+    picks: &[u32],
+    hall: &mut PlainHall,
+    port: &mut Port<S>,
+) -> Result<(), AllocError>
+    requires ready { IsReady M.code M.Rule.asks M.Rule.objects shells.old.items hall.old port.old.entries }
+    ensures later { IsLater M.code M.Rule.asks shells.old.items shells.new.items hall.old hall.new port.old.entries port.new.entries }
+    ensures going { (k : M.Rule.Code) (steps : ℕ) → AreDriven M.code M.Rule.asks k (objects_of hall.old) shells.old.items hall.old port.old.entries → AreLegal hall.new → stays_failed port.new.entries ≡ true → Going (workers_setup (M.Rule.asks k) (objects_of hall.old)) (record_now steps shells.old.items hall.old port.old.entries) → Going (workers_setup (M.Rule.asks k) (objects_of hall.old)) (record_now steps shells.new.items hall.new port.new.entries) }
+    ensures first { port.new.first ≡ port.old.first }
+{
+    for pick in picks {
+        drive_pick(shells, *pick, hall, port)?;
+    }
+    Ok(())
+}
