@@ -1,0 +1,8 @@
+//! Declarations of a file as data.
+#![tactic(auto)]
+
+mod declaration;
+mod indicator;
+
+pub use declaration::{Declaration, Names, Marks};
+pub use indicator::{Indicator, Indicators};
