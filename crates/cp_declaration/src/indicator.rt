@@ -1,7 +1,7 @@
 use cp_list::ListOf;
 use cp_term::Name;
 
-/// NAME/ARITY.
+/// `p/n` in a declaration: a predicate's name and its number of arguments, from 0 to 255.
 #[derive(Debug, Drop)]
 pub struct Indicator {
     pub name: Name,
@@ -9,4 +9,3 @@ pub struct Indicator {
 }
 
 pub type Indicators = ListOf<Indicator>;
-

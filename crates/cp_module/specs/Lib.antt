@@ -4,3 +4,11 @@ pub mod Texts
 pub mod Causes
 pub mod Parts
 pub mod Answers
+pub mod Operators
+pub mod Above
+pub mod Rows
+pub mod Goals
+pub mod Least
+pub mod Headers
+pub mod Judging
+pub mod LanguageWords

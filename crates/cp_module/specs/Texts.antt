@@ -19,19 +19,10 @@ use Rattle.cp_read.specs.Clauses.{Clause, Fault, next_clause}
 use Rattle.cp_declaration.specs.declared.declaration.Declaration.{Declaration}
 use Rattle.cp_declaration.specs.declared.declaration.Declaration.TheVariants as declares
 use Rattle.cp_declaration.specs.Declarations.{declaration}
+pub use Rattle.cp_module.specs.declared.cause.Cause.{Cause}
+pub use Rattle.cp_module.specs.declared.text.Text.{Text}
 use Rattle.cp_module.specs.declared.why.Why.{Why}
 use Rattle.cp_module.specs.declared.why.Why.TheVariants as why
-
--- what is refused on a line
-pub record Cause : Type 0 where
-  pub line : ℕ
-  pub why : Why
-
--- the clauses of a text, its operators at its end, and what cannot be read, if something cannot
-pub record Text : Type 0 where
-  pub clauses : List ReadClause
-  pub ops : Ops
-  pub fault : Option Cause
 
 -- ---- the names of what cannot be read
 

@@ -1,0 +1,3 @@
+use cp_list::ListOf;
+
+pub type Marks = ListOf<bool>;

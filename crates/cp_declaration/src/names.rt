@@ -1,0 +1,4 @@
+use cp_list::ListOf;
+use cp_term::Name;
+
+pub type Names = ListOf<Name>;
