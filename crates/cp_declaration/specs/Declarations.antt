@@ -1,6 +1,6 @@
 -- What a declaration `:- D` of a file says (Ciao manual: modules, concurrent predicates, assertions; ISO/IEC 13211-1, 7.4.2),
 -- or that it is none that is accepted.
-use Rattle.std.specs.Prelude.{ℕ, zero, suc, Bool, true, false, ◌||◌, ◌&&◌, nat_eq, if◌then◌else◌, List, [], ◌∷◌, map, Option, Some, None, ℤ, pos}
+use Rattle.std.specs.Prelude.{ℕ, zero, suc, Bool, true, false, ◌||◌, ◌&&◌, if◌then◌else◌, List, [], ◌∷◌, map, Option, Some, None, pos}
 use Rattle.std.specs.Option.{option_or, option_map}
 use Rattle.cp_term.specs.declared.cell.Cell.{Cell}
 use Rattle.cp_term.specs.declared.cell.Cell.TheVariants.{Var, Int, Atom, Func}

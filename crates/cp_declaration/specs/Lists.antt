@@ -2,7 +2,7 @@
 -- '.'/2 and the atom [], so that in preorder each element stands behind a '.', and [] stands last.
 use Rattle.std.specs.Prelude.{ℕ, zero, suc, Bool, false, ◌&&◌, nat_eq, nat_lt, if◌then◌else◌, List, [], ◌∷◌, Option, Some, None, pos}
 use Rattle.cp_term.specs.declared.cell.Cell.{Cell}
-use Rattle.cp_term.specs.declared.cell.Cell.TheVariants.{Var, Int, Atom, Func}
+use Rattle.cp_term.specs.declared.cell.Cell.TheVariants.{Int, Atom, Func}
 use Rattle.cp_declaration.specs.declared.indicator.Indicator.{Indicator}
 use Rattle.cp_declaration.specs.Words.{is, is_package}
 

@@ -6,3 +6,6 @@ pub mod WalkLaws
 pub mod LeastLaws
 pub mod AboveLaws
 pub mod Reached
+pub mod KeyLaws
+pub mod TermLaws
+pub mod PathLaws

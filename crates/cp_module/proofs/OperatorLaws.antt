@@ -8,6 +8,10 @@ use Rattle.cp_ops.specs.declared.table.OpError.TheVariants.{Clash}
 use Rattle.cp_ops.specs.Operators.{Ops, declare, declared_at, declared_as, is_fixed, kind_of, priority_of, with_operator}
 use Rattle.cp_module.specs.Texts.{declared, kept, and_then}
 use Rattle.cp_module.specs.Operators.{is_accepted}
+use Rattle.cp_ops.specs.Standard.{standard}
+use Rattle.cp_module.specs.declared.why.Why.TheVariants as why
+use Rattle.cp_module.specs.Causes.{unless}
+use Rattle.cp_module.specs.Judging.{operators_cause}
 
 by_name : (b : Bool) (ops : Ops) → is_ok (let r : Result Ops OpError = if b then Err Clash else Ok ops in r) ≡ not b
 by_name true ops = refl
@@ -44,3 +48,12 @@ none_declared ops priority kind names h = none_of (declared ops priority kind na
 pub one_declared : (ops changed : Ops) (priority : ℤ) (kind name : List ℕ) (names : List (List ℕ)) → declare ops priority kind name ≡ Ok changed
     → declared ops priority kind (name ∷ names) ≡ declared changed priority kind names
 one_declared ops changed priority kind name names e = ap (λ r. and_then (kept r) (λ o. declared o priority kind names)) e
+
+pub cause_accepted : (priority : ℤ) (kind : List ℕ) (names : List (List ℕ)) (b : Bool) → b ≡ list_all (is_accepted priority kind) names
+    → operators_cause priority kind names ≡ (if b then None else Some why.BadDeclaration)
+cause_accepted priority kind names b h =
+    ap (λ x. unless (not x) why.BadDeclaration None) (all_accepted standard priority kind names ∙ sym h) ∙ go b
+  where
+    go : (x : Bool) → unless (not x) why.BadDeclaration None ≡ (if x then None else Some why.BadDeclaration)
+    go true = refl
+    go false = refl

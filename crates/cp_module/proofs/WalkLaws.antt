@@ -1,9 +1,9 @@
 -- The walk along the cells of a term says whether it is a goal.
-use Rattle.std.proofs.Common.{◌≡◌, ℕ, zero, suc, ◌+◌, ◌-◌, ◌≤◌, true, false, Bool, Some, None, Option, List, [], ◌∷◌, ◌++◌, length, take, drop, slice_index_or, refl, sym, ◌∙◌, ap, subst, arith, length-drop}
+use Rattle.std.proofs.Common.{◌≡◌, ℕ, zero, suc, ◌+◌, ◌-◌, ◌<◌, ◌≤◌, get_or, true, false, Bool, Some, None, Option, List, [], ◌∷◌, ◌++◌, length, take, drop, slice_index_or, refl, sym, ◌∙◌, ap, subst, arith, length-drop}
 use Rattle.std.specs.Prelude.{◌&&◌, ◌||◌, if◌then◌else◌, is_some}
 use Rattle.std.specs.List.{list_all}
 use Rattle.std.proofs.lemmas.Bool.{and_parts, false≢true}
-use Rattle.std.proofs.lemmas.List.{take-append-drop, length-take-le, drop-drop}
+use Rattle.std.proofs.lemmas.List.{take-append-drop, length-take-le, drop-drop, drop_more}
 use Rattle.std.proofs.lemmas.List.Folds.{list_all-append}
 use Rattle.cp_term.specs.declared.cell.Cell.{Cell}
 use Rattle.cp_term.specs.declared.cell.Cell.TheVariants.{Var, Int, Atom, Func}
@@ -48,6 +48,20 @@ length-reads (suc n) (c ∷ cells) h =
     let all : length (of_terms read_of cells) ≡ arity_of c + n = length-reads (terms_after c n) cells parts.1 ∙ terms_after-is c n in
     let rest : length (drop (arity_of c) (of_terms read_of cells)) ≡ length (of_terms read_of cells) - arity_of c = length-drop (arity_of c) (of_terms read_of cells) in
     omega arith
+
+abbrev plus : ℕ → ℕ → ℕ
+plus zero g = g
+plus (suc t) g = suc (plus t g)
+
+plus-is : (t g : ℕ) → plus t g ≡ t + g
+plus-is zero g = omega arith
+plus-is (suc t) g = let e : plus t g ≡ t + g = plus-is t g in omega arith
+
+drop_past : {A : Type 0} (xs : List A) (i : ℕ) → length xs ≤ i → drop i xs ≡ []
+drop_past [] zero h = refl
+drop_past [] (suc i) h = refl
+drop_past (x ∷ xs) zero h = absurd (omega arith)
+drop_past (x ∷ xs) (suc i) h = drop_past xs i (omega arith)
 
 module _ (m : List ℕ) where
   goes : Read → Bool
@@ -133,8 +147,8 @@ module _ (m : List ℕ) where
   all_of false t rs = all_go (drop t rs)
 
   count : Bool → ℕ → ℕ → ℕ
-  count true t g = suc (t + g)
-  count false t g = t + g
+  count true t g = suc (plus t g)
+  count false t g = plus t g
 
   Walked : List Cell → Type 0
   Walked cells = (named : Bool) (t g : ℕ) → is_terms (count named t g) cells ≡ true → walk (to_come named t g) cells ≡ all_of named t (reads cells)
@@ -162,11 +176,12 @@ module _ (m : List ℕ) where
   begun NoGoal cells k g b ih len there h s = ap (λ x. x && all_go (drop k (reads cells))) (sym s)
   begun (Goals n) cells k g b ih len there h s =
       let nk : n ≡ k = s.0 ∙ len in
-      ih false 0 (n + g) (ap (λ i. is_terms (0 + (i + g)) cells) nk ∙ ap (λ i. is_terms i cells) (omega arith) ∙ h)
+      ih false 0 (n + g) (ap (λ i. is_terms (i + g) cells) nk ∙ h)
       ∙ go_split k (reads cells) ∙ ap (λ x. x && all_go (drop k (reads cells))) (sym s.1)
   begun Qualified cells k g b ih len there h s =
       let e : 2 ≡ k = s.0 ∙ len in
-      ih true 0 (suc g) (ap (λ i. is_terms i cells) (omega arith) ∙ h)
+      let two : suc (suc g) ≡ k + g = omega arith in
+      ih true 0 (suc g) (ap (λ i. is_terms i cells) two ∙ h)
       ∙ by_reads (reads cells)
       ∙ qualified_split k (reads cells) e there ∙ ap (λ x. x && all_go (drop k (reads cells))) (sym s.1)
     where
@@ -175,11 +190,12 @@ module _ (m : List ℕ) where
       by_reads (r ∷ rs) = refl
   begun (Terms n) cells k g b ih len there h s =
       let nk : n ≡ k = s.0 ∙ len in
-      ih false n g (ap (λ i. is_terms (i + g) cells) nk ∙ h)
+      let all : plus n g ≡ k + g = omega (arith, plus-is n g) in
+      ih false n g (ap (λ i. is_terms i cells) all ∙ h)
       ∙ ap (λ i. all_go (drop i (reads cells))) nk ∙ ap (λ x. x && all_go (drop k (reads cells))) (sym s.1)
 
   walked : (cells : List Cell) → Walked cells
-  unfolding Walked all_of count reads all_go
+  unfolding Walked all_of count reads all_go is_name
   walked [] true t g h = refl
   walked [] false zero g h = refl
   walked [] false (suc t) g h = refl
@@ -188,8 +204,8 @@ module _ (m : List ℕ) where
   walked (Func f k ∷ cells) true t g h = refl
   walked (Atom a ∷ cells) true t g h = walked cells false t g h
   walked (c ∷ cells) false (suc t) g h =
-      let parts = and_parts (has_arity c) (is_terms (terms_after c (t + g)) cells) h in
-      let n : terms_after c (t + g) ≡ terms_after c t + g = omega (arith, terms_after-is c (t + g), terms_after-is c t) in
+      let parts = and_parts (has_arity c) (is_terms (terms_after c (plus t g)) cells) h in
+      let n : terms_after c (plus t g) ≡ plus (terms_after c t) g = omega (arith, terms_after-is c (plus t g), terms_after-is c t, plus-is t g, plus-is (terms_after c t) g) in
       walked cells false (terms_after c t) g (ap (λ i. is_terms i cells) (sym n) ∙ parts.1)
       ∙ ap (λ i. all_go (drop i (of_terms read_of cells))) (terms_after-is c t)
       ∙ ap all_go (sym (drop-drop t (arity_of c) (of_terms read_of cells)))
@@ -211,3 +227,14 @@ module _ (m : List ℕ) where
   pub walk_says : (cells : List Cell) → is_terms 1 cells ≡ true → walk (to_come false 0 1) cells ≡ is_some (body_of m cells)
   unfolding Walked all_of count reads body_of
   walk_says cells h = walked cells false 0 1 h ∙ one_read (of_terms read_of cells) (length-reads 1 cells h)
+
+  pub ends_in_none : (s : ToCome) (cells : List Cell) (i : ℕ) (c : Cell) → i < length cells → c ≡ get_or cells i c → after_cell s c ≡ None
+      → walk s (drop i cells) ≡ walk (to_come false 0 1) cells → is_terms 1 cells ≡ true → false ≡ is_some (body_of m cells)
+  ends_in_none s cells i c lt at e w t =
+      sym (walk_ends s c (drop (i + 1) cells) e)
+      ∙ ap (λ x. walk s (x ∷ drop (i + 1) cells)) at
+      ∙ ap (walk s) (sym (drop_more cells i c lt))
+      ∙ w ∙ walk_says cells t
+
+  pub ends_at_last : (s : ToCome) (cells : List Cell) (i : ℕ) → length cells ≤ i → walk s (drop i cells) ≡ walk (to_come false 0 1) cells → is_terms 1 cells ≡ true → true ≡ is_some (body_of m cells)
+  ends_at_last s cells i past w t = sym (ap (walk s) (drop_past cells i past)) ∙ w ∙ walk_says cells t

@@ -1,5 +1,5 @@
 -- What the clauses above a clause say of predicates, as a table that is asked by name and number of arguments.
-use Rattle.std.specs.Prelude.{◌≡◌, ℕ, ◌+◌, Bool, false, ◌||◌, nat_lt, min, if◌then◌else◌, List, [], ◌∷◌, length, map}
+use Rattle.std.specs.Prelude.{◌≡◌, ℕ, ◌+◌, Bool, false, ◌||◌, nat_lt, min, if◌then◌else◌, List, [], ◌∷◌, length, Option, Some, None}
 use Rattle.cp_declaration.specs.declared.indicator.Indicator.{Indicator}
 use Rattle.cp_read.specs.declared.clause.ReadClause.{ReadClause}
 use Rattle.cp_module.specs.declared.known.Known.{Known}
@@ -12,6 +12,10 @@ pub record Row : Type 0 where
 
 abbrev pub unknown : Known
 unknown = record { clauses = 0; shared = false }
+
+abbrev pub known_or : Option Known → Known
+known_or (Some k) = k
+known_or None = unknown
 
 abbrev pub known_in : List Row → Indicator → Known
 known_in [] p = unknown

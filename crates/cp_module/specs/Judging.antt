@@ -1,6 +1,6 @@
 -- What is refused in a clause, by what is known of the clauses above it. Each of these is said for whatever clauses the
 -- table is of.
-use Rattle.std.specs.Prelude.{◌≡◌, ℕ, Bool, not, ◌&&◌, nat_le, List, [], ◌∷◌, ◌++◌, length, Option, Some, None}
+use Rattle.std.specs.Prelude.{◌≡◌, ℕ, Bool, not, ◌&&◌, nat_le, List, [], ◌∷◌, ◌++◌, length, Option, Some, None, is_some, ℤ}
 use Rattle.std.specs.List.{list_any}
 use Rattle.cp_term.specs.declared.cell.Cell.{Cell}
 use Rattle.cp_declaration.specs.declared.declaration.Declaration.{Declaration}
@@ -8,10 +8,12 @@ use Rattle.cp_declaration.specs.declared.declaration.Declaration.TheVariants as 
 use Rattle.cp_declaration.specs.declared.indicator.Indicator.{Indicator}
 use Rattle.cp_read.specs.declared.clause.ReadClause.{ReadClause}
 use Rattle.cp_module.specs.declared.why.Why.{Why}
-use Rattle.cp_module.specs.declared.why.Why.TheVariants as why
-use Rattle.cp_module.specs.Texts.{Cause}
-use Rattle.cp_module.specs.Above.{Row, Knows}
-use Rattle.cp_module.specs.Causes.{unless, is_goal_of_the_language, is_shared, clauses_of, is_defined, declaration_cause, rule_cause, clause_cause, clause_causes, end_causes, undefined, least}
+use Rattle.cp_module.specs.declared.why.Why.TheVariants as whys
+use Rattle.cp_ops.specs.Standard.{standard}
+use Rattle.cp_module.specs.Texts.{Cause, declared}
+use Rattle.cp_module.specs.Above.{Row, Knows, known_in, known_behind}
+use Rattle.cp_module.specs.Causes.{unless, is_goal_of_the_language, is_shared, clauses_of, is_defined, declaration_cause, rule_cause, clause_cause, clause_causes, end_causes, undefined, least, cause_on}
+use Rattle.cp_module.specs.Least.{soonest}
 
 abbrev pub IsDefinedness : List Row → Indicator → Bool → Type 0
 IsDefinedness rows p b = (done : List ReadClause) → Knows rows done → b ≡ is_defined done p
@@ -31,11 +33,14 @@ IsDeclarationCause rows said cause = (done : List ReadClause) → Knows rows don
 abbrev pub IsSharingCause : List Row → List Indicator → Option Why → Type 0
 IsSharingCause rows preds cause = (suspends : Bool) → IsDeclarationCause rows (Some (declares.Shared suspends preds)) cause
 
+abbrev pub operators_cause : ℤ → List ℕ → List (List ℕ) → Option Why
+operators_cause priority kind names = unless (not (is_some (declared standard priority kind names))) whys.BadDeclaration None
+
 -- what is refused in a clause of p, which is a fact or not
 abbrev pub pred_cause : List ReadClause → Indicator → Bool → Option Why
 pred_cause done p fact =
-    unless (is_goal_of_the_language p) why.ClauseOfBuiltin
-    (unless (is_shared done p && not fact) why.RuleOfShared (unless (nat_le 4096 (length (clauses_of done p))) why.TooManyClauses None))
+    unless (is_goal_of_the_language p) whys.ClauseOfBuiltin
+    (unless (is_shared done p && not fact) whys.RuleOfShared (unless (nat_le 4096 (length (clauses_of done p))) whys.TooManyClauses None))
 
 abbrev pub IsPredCause : List Row → Indicator → Bool → Option Why → Type 0
 IsPredCause rows p fact cause = (done : List ReadClause) → Knows rows done → cause ≡ pred_cause done p fact
@@ -57,3 +62,10 @@ KnowsMore old clauses new = (a : ReadClause) → (done : List ReadClause) → Kn
 
 abbrev pub IsEndCause : List Row → ReadClause → Option Cause → Option Cause → Type 0
 IsEndCause rows first fault cause = (done : List ReadClause) → Knows rows (first ∷ done) → cause ≡ least (end_causes (first ∷ done) fault)
+
+-- one clause more is judged: what is known behind it, and what counts then
+pub record IsJudged (rows more : List Row) (c : ReadClause) (cause now : Option Cause) : Type 0 where
+  pub why : Option Why
+  pub is_cause : IsClauseCause rows c why
+  pub is_known : (p : Indicator) → known_in more p ≡ known_behind c p (known_in rows p)
+  pub counts : now ≡ soonest cause (least (cause_on c.line why))

@@ -1,7 +1,7 @@
 ghost use Rattle.std.specs.Prelude.{◌≡◌, [], IfOk, OnOk, if◌then◌else◌};
 ghost use Rattle.cp_declaration.specs.declared.indicator.Indicator.{Indicator};
 ghost use Rattle.cp_module.specs.Causes.{same};
-ghost use Rattle.cp_module.specs.Above.{known_in, with_clause, with_sharing};
+ghost use Rattle.cp_module.specs.Above.{known_in, known_or, with_clause, with_sharing};
 
 use crate::known::Known;
 use cp_term::Name;
@@ -49,13 +49,7 @@ impl Above {
             name: name.clone()?,
             arity,
         };
-        match self.rows.get(&key) {
-            Some(known) => Ok(*known),
-            None => Ok(Known {
-                clauses: 0,
-                shared: false,
-            }),
-        }
+        Ok(known_or(self.rows.get(&key).copied()))
     }
 
     /// Makes this what is known of a predicate.
@@ -103,5 +97,18 @@ impl Above {
                 shared: true,
             },
         )
+    }
+}
+
+/// Of a predicate that is not in the table nothing is known.
+fn known_or(known: Option<Known>) -> Known
+    ensures { result ≡ known_or known }
+{
+    match known {
+        Some(known) => known,
+        None => Known {
+            clauses: 0,
+            shared: false,
+        },
     }
 }

@@ -1,19 +1,20 @@
-ghost use Rattle.std.specs.Prelude.{◌≡◌, ℕ, ◌<◌, ◌^◌, true, List, length, IfOk};
+ghost use Rattle.std.specs.Prelude.{◌≡◌, ℕ, ◌<◌, ◌^◌, ◌||◌, nat_lt, true, List, length, IfOk};
 ghost use Rattle.cp_term.specs.Preorder.{is_terms};
 ghost use Rattle.cp_code.specs.Clauses.{body_term};
 ghost use Rattle.cp_module.specs.Causes.{is_body, is_fact};
-ghost use Rattle.cp_module.specs.Judging.{IsDefinedness, AreDefined, IsOneUndefined, IsUndefined, IsDeclarationCause, IsSharingCause, IsPredCause, IsRuleCause, IsClauseCause};
+ghost use Rattle.cp_module.specs.Judging.{IsDefinedness, AreDefined, IsOneUndefined, IsUndefined, IsDeclarationCause, IsSharingCause, operators_cause, IsPredCause, IsRuleCause, IsClauseCause};
 
 use crate::above::Above;
 use crate::clause::{Pred, body_term, is_true, pred_of_head};
 use crate::goals::is_goal;
+use crate::known::Known;
 use crate::operators::are_accepted;
 use crate::preds::{are_of_language, repeat};
 use crate::why::Why;
 use crate::words::is_language;
 use cp_declaration::{Declaration, Indicator, Indicators, declaration_of, is_declaration};
 use cp_read::ReadClause;
-use cp_term::{Cell, Term};
+use cp_term::{Cell, Name, Term};
 use std::alloc::{AllocError, Global};
 
 /// What is refused in a clause that is not the first.
@@ -26,7 +27,7 @@ pub(crate) fn later_cause(
 {
     if is_declaration(&clause.term) {
         let said = declaration_of(alloc, &clause.term)?;
-        declaration_cause(above, &said)
+        declaration_cause(above, said)
     } else {
         rule_cause(above, &clause.term)
     }
@@ -34,9 +35,9 @@ pub(crate) fn later_cause(
 
 fn declaration_cause(
     above: &Above,
-    said: &Option<Declaration>,
+    said: Option<Declaration>,
 ) -> Result<Option<Why>, AllocError>
-    ensures { IfOk result (λ cause. IsDeclarationCause above.now said.now cause) }
+    ensures { IfOk result (λ cause. IsDeclarationCause above.now said cause) }
 {
     match said {
         None => Ok(Some(Why::BadDeclaration)),
@@ -45,15 +46,23 @@ fn declaration_cause(
             priority,
             kind,
             names,
-        }) => {
-            if are_accepted(*priority, kind, names.as_slice()) {
-                Ok(None)
-            } else {
-                Ok(Some(Why::BadDeclaration))
-            }
+        }) => Ok(operators_cause(priority, &kind, names.as_slice())),
+        Some(Declaration::Shared { suspends: _, preds }) => {
+            let cause = sharing_cause(above, preds.as_slice())?;
+            Ok(cause)
         }
-        Some(Declaration::Shared { suspends: _, preds }) => sharing_cause(above, preds.as_slice()),
         _ => Ok(None),
+    }
+}
+
+/// What is refused in a declaration of these names as such operators.
+fn operators_cause(priority: i64, kind: &Name, names: &[Name]) -> Option<Why>
+    ensures { result ≡ operators_cause priority kind.now names.now }
+{
+    if are_accepted(priority, kind, names) {
+        None
+    } else {
+        Some(Why::BadDeclaration)
     }
 }
 
@@ -114,7 +123,14 @@ fn is_defined(above: &Above, pred: &Indicator) -> Result<bool, AllocError>
     ensures { IfOk result (λ found. IsDefinedness above.now pred.now found) }
 {
     let known = above.find(&pred.name, pred.arity)?;
-    Ok(known.clauses > 0 || known.shared)
+    Ok(defines(known))
+}
+
+/// Whether a predicate of which this is known is defined.
+fn defines(known: Known) -> bool
+    ensures { result ≡ (nat_lt 0 known.clauses || known.shared) }
+{
+    known.clauses > 0 || known.shared
 }
 
 fn rule_cause(above: &Above, clause: &Term) -> Result<Option<Why>, AllocError>

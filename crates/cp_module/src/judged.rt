@@ -1,6 +1,7 @@
 ghost use Rattle.std.specs.Prelude.{◌≡◌, ◌∷◌, ◌++◌, [], IfOk, OnOk};
-ghost use Rattle.cp_module.specs.Causes.{refused, clause_causes, end_causes, least};
-ghost use Rattle.cp_module.specs.Judging.{IsCauseOf, KnowsMore, IsEndCause};
+ghost use Rattle.cp_module.specs.Causes.{refused, clause_causes, cause_on, end_causes, least};
+ghost use Rattle.cp_module.specs.Least.{soonest};
+ghost use Rattle.cp_module.specs.Judging.{IsCauseOf, KnowsMore, IsEndCause, IsJudged};
 
 use crate::above::Above;
 use crate::cause::{Cause, soonest};
@@ -54,7 +55,7 @@ fn cause_of(
     note(alloc, &mut above, first)?;
     let behind = later_causes(alloc, &mut above, later)?;
     let end = end_cause(alloc, &above, first, fault)?;
-    Ok(soonest(soonest(Cause::on(first.line, why), behind), end))
+    Ok(soonest_of(first.line, why, behind, end))
 }
 
 /// What counts of what is refused in the clauses behind the first, which are noted.
@@ -68,11 +69,42 @@ fn later_causes(
 {
     let mut cause: Option<Cause> = None;
     for clause in clauses {
-        let why = later_cause(alloc, above, clause)?;
-        note(alloc, above, clause)?;
-        cause = soonest(cause, Cause::on(clause.line, why));
+        let found = judge_next(alloc, above, clause, cause)?;
+        cause = found;
     }
     Ok(cause)
+}
+
+/// Notes a clause, and what counts behind it where this counts above it.
+fn judge_next(
+    alloc: Global,
+    above: &mut Above,
+    clause: &ReadClause,
+    cause: Option<Cause>,
+) -> Result<Option<Cause>, AllocError>
+    ensures { IfOk result (λ found. IsJudged above.old above.new clause.now cause found) }
+{
+    let why = later_cause(alloc, above, clause)?;
+    note(alloc, above, clause)?;
+    Ok(soonest_on(cause, clause.line, why))
+}
+
+fn soonest_on(cause: Option<Cause>, line: u32, why: Option<Why>) -> Option<Cause>
+    ensures { result ≡ soonest cause (least (cause_on line why)) }
+{
+    soonest(cause, Cause::on(line, why))
+}
+
+/// What counts of the first clause, of those behind it and of the end.
+fn soonest_of(
+    line: u32,
+    why: Option<Why>,
+    behind: Option<Cause>,
+    end: Option<Cause>,
+) -> Option<Cause>
+    ensures { result ≡ soonest (soonest (least (cause_on line why)) behind) end }
+{
+    soonest(soonest(Cause::on(line, why), behind), end)
 }
 
 /// What is refused at the end of a file: what cannot be read, or an export that the file does not define.

@@ -7,7 +7,7 @@ ghost use Rattle.cp_module.specs.Above.{known_in, known_behind, with_clause, wit
 
 use crate::above::Above;
 use crate::clause::pred_of_head;
-use cp_declaration::{Declaration, Indicator, declaration_of, is_declaration};
+use cp_declaration::{Declaration, Indicator, Indicators, declaration_of, is_declaration};
 use cp_read::ReadClause;
 use cp_term::{Cell, Term};
 use std::alloc::{AllocError, Global};
@@ -34,9 +34,18 @@ fn note_declaration(
 ) -> Result<(), AllocError>
     ensures { OnOk result ((p : Named) → known_in above.new p ≡ with_sharing (is_in (shares_by (declaration clause.now)) p) (known_in above.old p)) }
 {
-    match declaration_of(alloc, clause)? {
-        Some(Declaration::Shared { suspends: _, preds }) => note_shared(above, preds.as_slice()),
-        _ => Ok(()),
+    let said = declaration_of(alloc, clause)?;
+    let preds = shares_by(alloc, said);
+    note_shared(above, preds.as_slice())
+}
+
+/// The predicates that a declaration declares to be shared.
+fn shares_by(alloc: Global, said: Option<Declaration>) -> Indicators
+    ensures { result ≡ shares_by said }
+{
+    match said {
+        Some(Declaration::Shared { suspends: _, preds }) => preds,
+        _ => Indicators::new(alloc),
     }
 }
 

@@ -18,6 +18,7 @@ pub fn base_of(path: &[u8]) -> &[u8]
 
 /// The path of the file that a module of the file at this path imports under a name: it stands in the same directory,
 /// and has the name with `.pl` behind it, unless the name ends so.
+#[tactic(auto, unfolding(crate::specs::Paths::imported_file))]
 pub fn imported_file(alloc: Global, path: &[u8], name: &[u8]) -> Result<Bytes, AllocError>
     ensures { IfOk result (λ file. file ≡ imported_file path.now name.now) }
 {

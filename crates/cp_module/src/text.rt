@@ -25,6 +25,7 @@ const BOUNDS: Bounds = Bounds {
 };
 
 /// The text of a file.
+#[tactic(auto, unfolding(crate::specs::Texts::text_of))]
 pub(crate) fn text_of(alloc: Global, bytes: &[u8]) -> Result<Text, AllocError>
     requires { length bytes.now < 2 ^ 32 - 1 }
     ensures { IfOk result (λ text. text ≡ text_of bytes.now) }
