@@ -37,28 +37,29 @@ twice true v w x = refl
 twice false v w x = refl
 
 apart : (a b : Bool) (v w x : Known) → (a ≡ true → b ≡ true → ⊥) → (if a then w else if b then v else x) ≡ (if b then v else if a then w else x)
-apart true true v w x no = absurd (no refl refl)
-apart true false v w x no = refl
-apart false b v w x no = refl
+apart true true v w x never = absurd (never refl refl)
+apart true false v w x never = refl
+apart false b v w x never = refl
 
 pub inserted : (k : Key) (v : Known) (es : List (Key × Known)) (p : Indicator) → known_in (map row_of (insert_entry same_key es k v)) p ≡ (if same p (named k) then v else known_in (map row_of es) p)
 inserted k v [] p = refl
-inserted k v (e ∷ es) p = go (same_key k e.0) refl
+inserted k v (e ∷ es) p = go (same_key k e.0) refl (inserted k v es p)
   where
-    go : (b : Bool) → same_key k e.0 ≡ b → known_in (map row_of (cond b ((e.0, v) ∷ es) (e ∷ insert_entry same_key es k v))) p ≡ (if same p (named k) then v else if same p (named e.0) then e.1 else known_in (map row_of es) p)
-    go true h =
+    go : (b : Bool) → same_key k e.0 ≡ b → known_in (map row_of (insert_entry same_key es k v)) p ≡ (if same p (named k) then v else known_in (map row_of es) p)
+        → known_in (map row_of (cond b ((e.0, v) ∷ es) (e ∷ insert_entry same_key es k v))) p ≡ (if same p (named k) then v else if same p (named e.0) then e.1 else known_in (map row_of es) p)
+    go true h ih =
         let is : named k ≡ named e.0 = same-is (named k) (named e.0) h in
         twice (same p (named e.0)) v e.1 (known_in (map row_of es) p)
         ∙ ap (λ q. if same p q then v else if same p (named e.0) then e.1 else known_in (map row_of es) p) (sym is)
-    go false h =
-        ap (λ x. if same p (named e.0) then e.1 else x) (inserted k v es p)
+    go false h ih =
+        ap (λ x. if same p (named e.0) then e.1 else x) ih
         ∙ apart (same p (named e.0)) (same p (named k)) v e.1 (known_in (map row_of es) p)
           (λ at_e at_k. false≢true (sym h ∙ ap (λ q. same (named k) q) (sym (same-is p (named e.0) at_e)) ∙ ap (λ q. same q p) (sym (same-is p (named k) at_k)) ∙ same-self p))
 
 pub looked_up : (k : Key) (es : List (Key × Known)) → known_or (lookup (same_key k) es) ≡ known_in (map row_of es) (named k)
 looked_up k [] = refl
-looked_up k (e ∷ es) = go (same_key k e.0)
+looked_up k (e ∷ es) = go (same_key k e.0) (looked_up k es)
   where
-    go : (b : Bool) → known_or (cond b (Some e.1) (lookup (same_key k) es)) ≡ (if b then e.1 else known_in (map row_of es) (named k))
-    go true = refl
-    go false = looked_up k es
+    go : (b : Bool) → known_or (lookup (same_key k) es) ≡ known_in (map row_of es) (named k) → known_or (cond b (Some e.1) (lookup (same_key k) es)) ≡ (if b then e.1 else known_in (map row_of es) (named k))
+    go true ih = refl
+    go false ih = ih

@@ -27,3 +27,21 @@ pub base_else : (path file : List ℕ) → file ≡ file_part path → has_endin
 unfolding base_of
 base_else path file e h =
     e ∙ ap (λ b. cond b (take (length (file_part path) - 3) (file_part path)) (file_part path)) (sym (ap has_ending (sym e) ∙ h))
+
+pub slash_more : (path seen : List ℕ) (start at : ℕ) → at < length path → get_or path at 0 ≡ 47 → start ≡ at + 1
+    → last_part (take (at + 1 - start) (drop start path)) (drop (at + 1) path) ≡ last_part seen (drop at path)
+slash_more path seen start at lt e s =
+    let none : at + 1 - start ≡ 0 = omega arith in
+    ap (λ n. last_part (take n (drop start path)) (drop (at + 1) path)) none ∙ sym (at_slash path seen at lt e)
+
+pub other_more : (path : List ℕ) (start at : ℕ) → start ≤ at → at < length path → (get_or path at 0 ≡ 47 → ⊥)
+    → last_part (take (at + 1 - start) (drop start path)) (drop (at + 1) path) ≡ last_part (take (at - start) (drop start path)) (drop at path)
+other_more path start at le lt ne =
+    let n : at + 1 - start ≡ (at - start) + 1 = omega arith in
+    let i : start + (at - start) ≡ at = omega arith in
+    let short : at - start < length (drop start path) = omega (arith, length-drop start path) in
+    let here : get_or (drop start path) (at - start) 0 ≡ get_or path at 0 = get_or-drop start path (at - start) 0 ∙ ap (λ k. get_or path k 0) i in
+    ap (λ k. last_part (take k (drop start path)) (drop (at + 1) path)) n
+    ∙ ap (λ xs. last_part xs (drop (at + 1) path)) (take_more (drop start path) (at - start) 0 short)
+    ∙ ap (λ b. last_part (take (at - start) (drop start path) ++ b ∷ []) (drop (at + 1) path)) here
+    ∙ sym (at_other path (take (at - start) (drop start path)) at lt ne)

@@ -1,5 +1,5 @@
 -- How far the clauses of a file are judged.
-use Rattle.std.proofs.Common.{◌≡◌, ℕ, refl, sym, ap, ◌∙◌, Bool, Some, None, Option, List, [], ◌∷◌, ◌++◌, zero, suc, ◌+◌, ◌<◌, ◌≤◌, length, get_or, drop, append_assoc, append-nil, subst, arith}
+use Rattle.std.proofs.Common.{◌≡◌, ℕ, refl, sym, ap, ◌∙◌, Bool, Some, None, Option, List, [], ◌∷◌, ◌++◌, zero, suc, ◌+◌, ◌-◌, ◌<◌, ◌≤◌, length, get_or, take, drop, append_assoc, append-nil, subst, arith}
 use Rattle.std.proofs.lemmas.List.{drop_more}
 use Rattle.cp_declaration.specs.declared.indicator.Indicator.{Indicator}
 use Rattle.cp_read.specs.declared.clause.ReadClause.{ReadClause}
@@ -10,6 +10,7 @@ use Rattle.cp_module.specs.Least.{soonest}
 use Rattle.cp_module.specs.Above.{Row, known_in, Knows, known_behind}
 use Rattle.cp_module.specs.Judging.{IsClauseCause, IsCauseOf, KnowsMore, IsEndCause, IsJudged}
 use Rattle.cp_module.proofs.AboveLaws.{knows_none, knows_more}
+use Rattle.cp_module.proofs.TermLaws.{behind_first_item}
 use Rattle.cp_module.proofs.LeastLaws.{soonest-assoc, least-append}
 
 -- behind the clause a and these, the clauses up to the rest are judged
@@ -93,12 +94,13 @@ pub of_none : (base : List ℕ) (text : Text) → text.clauses ≡ [] → least 
 unfolding refused
 of_none base text e = ap (λ cs. least (clause_causes base [] cs ++ end_causes cs text.fault)) (sym e)
 
-pub of_some : (base : List ℕ) (text : Text) (first : ReadClause) → 0 < length text.clauses → first ≡ get_or text.clauses 0 first
-    → least (clause_causes base [] (first ∷ drop 1 text.clauses) ++ end_causes (first ∷ drop 1 text.clauses) text.fault) ≡ refused base text
+pub of_some : (base : List ℕ) (text : Text) (first : ReadClause) (xs : List ReadClause) → xs ≡ text.clauses → 0 < length xs → first ≡ get_or xs 0 first
+    → least (clause_causes base [] (first ∷ take (length xs - 1) (drop 1 xs)) ++ end_causes (first ∷ take (length xs - 1) (drop 1 xs)) text.fault) ≡ refused base text
 unfolding refused
-of_some base text first some at =
-    let split : text.clauses ≡ first ∷ drop 1 text.clauses = drop_more text.clauses 0 first some ∙ ap (λ x. x ∷ drop 1 text.clauses) (sym at) in
-    ap (λ cs. least (clause_causes base [] cs ++ end_causes cs text.fault)) (sym split)
+of_some base text first xs is some at =
+    let split : xs ≡ first ∷ drop 1 xs = drop_more xs 0 first some ∙ ap (λ x. x ∷ drop 1 xs) (sym at) in
+    ap (λ cs. least (clause_causes base [] (first ∷ cs) ++ end_causes (first ∷ cs) text.fault)) (behind_first_item xs)
+    ∙ ap (λ cs. least (clause_causes base [] cs ++ end_causes cs text.fault)) (sym split ∙ is)
 
 -- ---- a file that is accepted can be read
 

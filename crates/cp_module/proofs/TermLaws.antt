@@ -1,5 +1,5 @@
 -- The body of a rule is one term.
-use Rattle.std.proofs.Common.{◌≡◌, ℕ, zero, suc, ◌+◌, true, false, List, [], ◌∷◌, refl, sym, ap, ◌∙◌, arith}
+use Rattle.std.proofs.Common.{◌≡◌, ℕ, zero, suc, ◌+◌, ◌-◌, length, take, drop, true, false, List, [], ◌∷◌, refl, sym, ap, ◌∙◌, arith}
 use Rattle.std.specs.Prelude.{nat_eq}
 use Rattle.std.proofs.lemmas.Bool.{and_parts, false≢true}
 use Rattle.std.proofs.lemmas.Bool.Decides.{Decides-eqb}
@@ -33,3 +33,18 @@ body_is_term (Func f k) cells r t =
     let two : k ≡ 2 = (Decides-eqb k 2).0 ((and_parts (is f ":-") (nat_eq k 2) r).1) in
     let behind : is_terms (k + 0) cells ≡ true = (and_parts (is_arity k) (is_terms (k + 0) cells) t).1 in
     rest_terms cells 1 1 (k + 0) (omega arith) behind
+
+take_all : {A : Type 0} (xs : List A) (n : ℕ) → n ≡ length xs → take n xs ≡ xs
+take_all [] zero e = refl
+take_all [] (suc n) e = refl
+take_all (x ∷ xs) zero e = absurd (omega arith)
+take_all (x ∷ xs) (suc n) e = ap (λ t. x ∷ t) (take_all xs n (omega arith))
+
+-- what stands behind the first item, as a slice
+pub behind_first_item : {A : Type 0} (xs : List A) → take (length xs - 1) (drop 1 xs) ≡ drop 1 xs
+behind_first_item [] = refl
+behind_first_item (x ∷ xs) = let n : length (x ∷ xs) - 1 ≡ length xs = omega arith in take_all xs (length (x ∷ xs) - 1) n
+
+pub nothing_there : {A : Type 0} (xs : List A) → length xs ≡ 0 → xs ≡ []
+nothing_there [] e = refl
+nothing_there (x ∷ xs) e = absurd (omega arith)

@@ -47,7 +47,10 @@ fn declaration_cause(
             kind,
             names,
         }) => Ok(operators_cause(priority, &kind, names.as_slice())),
-        Some(Declaration::Shared { suspends: _, preds }) => {
+        Some(Declaration::Shared {
+            suspends: _suspends,
+            preds,
+        }) => {
             let cause = sharing_cause(above, preds.as_slice())?;
             Ok(cause)
         }

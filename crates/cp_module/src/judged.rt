@@ -22,7 +22,10 @@ pub(crate) fn refused(
     ensures { IfOk result (λ cause. cause ≡ refused base.now text.now) }
 {
     match text.clauses.as_slice() {
-        [first, later @ ..] => cause_of(alloc, base, first, later, text.fault),
+        [first, later @ ..] => {
+            let cause = cause_of(alloc, base, first, later, text.fault)?;
+            Ok(cause)
+        }
         [] => Ok(cause_of_none(text.fault)),
     }
 }

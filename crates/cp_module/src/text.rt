@@ -57,7 +57,13 @@ fn clauses_from(alloc: Global, tokens: Tokens, mut ops: OpTable) -> Result<Text,
                 change_operators(alloc, &mut ops, &clause.term)?;
                 clauses.push(clause)?;
             }
-            Ok(None) => break 'clauses,
+            Ok(None) => {
+                return Ok(Text {
+                    clauses,
+                    ops,
+                    fault: None,
+                });
+            }
             Err(ReadError::NoMemory) => return Err(AllocError),
             Err(ReadError::Syntax { line, why }) => {
                 return Ok(Text {
