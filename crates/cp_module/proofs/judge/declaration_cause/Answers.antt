@@ -5,5 +5,5 @@ use Rattle.cp_module.proofs.judge.declaration_cause.Goals as goal
 
 pub returns-in-Some-Shared : goal.returns-in-Some-Shared
 returns-in-Some-Shared c = λ done knows.
-    let is : Some (declares.Shared c.in-Some-Shared._suspends c.as_slice.result.now) ≡ c.args.said = cc in
-    c.in_ok-cause.ensures c.in-Some-Shared._suspends done knows ∙ ap (declaration_cause done) is
+    let is : Some (declares.Shared c.in-Some-Shared._suspends c.as_slice-in-Some-Shared.result.now) ≡ c.args.said = cc in
+    c.in_ok-cause-in-Some-Shared.ensures c.in-Some-Shared._suspends done knows ∙ ap (declaration_cause done) is
