@@ -163,4 +163,3 @@ pub all_steady : (cells : List Cell) → AreSteady (of_terms read_of cells)
 all_steady [] = tt
 all_steady (c ∷ cells) =
     (read_steady c (take (arity_of c) (of_terms read_of cells)) (take_steady (arity_of c) (of_terms read_of cells) (all_steady cells)), drop_steady (arity_of c) (of_terms read_of cells) (all_steady cells))
-

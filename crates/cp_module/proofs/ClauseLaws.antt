@@ -26,7 +26,7 @@ step : (most : ℕ) (ops : Ops) (tokens : List Token) (r : Result (Option Clause
 unfolding by_next
 step most ops tokens r e = go (next_clause bounds ops tokens) ∙ ap (by_next most ops) e
   where
-    go : (x : Result (Option Clause) Fault) → (elim x [ | Ok found ↦ elim found [ | None ↦ ended ops None | Some c ↦ behind c (clauses_from most (ops_after ops c.cells) c.rest) ] | Err f ↦ ended ops (Some f) ]) ≡ by_next most ops x
+    go : (x : Result (Option Clause) Fault) → (elim x [ Ok found ↦ elim found [ None ↦ ended ops None | Some c ↦ behind c (clauses_from most (ops_after ops c.cells) c.rest) ] | Err f ↦ ended ops (Some f) ]) ≡ by_next most ops x
     go (Ok None) = refl
     go (Ok (Some c)) = refl
     go (Err f) = refl
@@ -43,7 +43,7 @@ one_more left most ops clauses tokens rest c l e =
     ap (λ n. before clauses (clauses_from n ops tokens)) l
     ∙ ap (before clauses) (step most ops tokens _ e)
     ∙ ap (λ cs. let t = clauses_from most (ops_after ops c.term) rest in let r : Text = record { clauses = cs; ops = t.ops; fault = t.fault } in r)
-      (sym (append_assoc clauses (c ∷ []) ((clauses_from most (ops_after ops c.term) rest).clauses)))
+    (sym (append_assoc clauses (c ∷ []) ((clauses_from most (ops_after ops c.term) rest).clauses)))
 
 pub at_fault : (left : ℕ) (most : ℕ) (ops : Ops) (clauses : List ReadClause) (tokens : List Token) (f : Fault) → left ≡ suc most
     → next_clause bounds ops tokens ≡ Err f → before clauses (clauses_from left ops tokens) ≡ before clauses (ended ops (Some f))

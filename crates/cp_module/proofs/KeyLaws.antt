@@ -54,7 +54,7 @@ inserted k v (e ∷ es) p = go (same_key k e.0) refl (inserted k v es p)
     go false h ih =
         ap (λ x. if same p (named e.0) then e.1 else x) ih
         ∙ apart (same p (named e.0)) (same p (named k)) v e.1 (known_in (map row_of es) p)
-          (λ at_e at_k. false≢true (sym h ∙ ap (λ q. same (named k) q) (sym (same-is p (named e.0) at_e)) ∙ ap (λ q. same q p) (sym (same-is p (named k) at_k)) ∙ same-self p))
+        (λ at_e at_k. false≢true (sym h ∙ ap (λ q. same (named k) q) (sym (same-is p (named e.0) at_e)) ∙ ap (λ q. same q p) (sym (same-is p (named k) at_k)) ∙ same-self p))
 
 pub looked_up : (k : Key) (es : List (Key × Known)) → known_or (lookup (same_key k) es) ≡ known_in (map row_of es) (named k)
 looked_up k [] = refl

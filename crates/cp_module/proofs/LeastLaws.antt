@@ -22,11 +22,11 @@ key l r m s hr hs =
       | inl lt ↦ ap (λ b. b || (nat_eq l m && nat_lt r s)) (lt-ltb l m lt) ∙ sym (lt-ltb (l * 32 + r) (m * 32 + s) (omega arith))
       | inr ge ↦ elim (eqb_tells l m) [
         | inl same ↦
-          let e : l ≡ m = same.1 in
-          ap (λ b. b || (nat_eq l m && nat_lt r s)) (le-ltb l m ge) ∙ ap (λ b. b && nat_lt r s) same.0 ∙ by_rank e
+            let e : l ≡ m = same.1 in
+            ap (λ b. b || (nat_eq l m && nat_lt r s)) (le-ltb l m ge) ∙ ap (λ b. b && nat_lt r s) same.0 ∙ by_rank e
         | inr other ↦
-          let ne : m < l = omega (arith, ge, other.1) in
-          ap (λ b. b || (nat_eq l m && nat_lt r s)) (le-ltb l m ge) ∙ ap (λ b. b && nat_lt r s) other.0 ∙ sym (le-ltb (l * 32 + r) (m * 32 + s) (omega arith))
+            let ne : m < l = omega (arith, ge, other.1) in
+            ap (λ b. b || (nat_eq l m && nat_lt r s)) (le-ltb l m ge) ∙ ap (λ b. b && nat_lt r s) other.0 ∙ sym (le-ltb (l * 32 + r) (m * 32 + s) (omega arith))
       ]
     ]
   where

@@ -122,7 +122,7 @@ module _ (m : List ℕ) where
       let w = is_some (within_module a.cells b.body) in
       subst P e
       (subst (Says (if joins f then Goals 2 else if is f ":" then Qualified else Terms 2) (a ∷ b ∷ [])) (sym (binary_some f cells a b m (s.0.arrow_fits m)))
-       (two (joins f) (is f ":") a b w (within a.cells b s.1.0)))
+      (two (joins f) (is f ":") a b w (within a.cells b s.1.0)))
   says_compound f k cells (a ∷ b ∷ c ∷ more) s e =
       let P : ℕ → Type 0 = λ n. Says (behind_functor f n) (a ∷ b ∷ c ∷ more) (is_some (compound_body f n cells (a ∷ b ∷ c ∷ more) m)) in
       let no1 : length (a ∷ b ∷ c ∷ more) ≡ 1 → ⊥ = λ e. omega arith in

@@ -26,8 +26,7 @@ impl Cause {
     fn comes_before(self, other: Cause) -> bool
         ensures { result ≡ comes_before self other }
     {
-        self.line < other.line
-            || (self.line == other.line && self.why.rank() < other.why.rank())
+        self.line < other.line || (self.line == other.line && self.why.rank() < other.why.rank())
     }
 }
 

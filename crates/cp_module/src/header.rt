@@ -24,10 +24,7 @@ pub(crate) fn first_cause(
 }
 
 /// What a header exports. None stands for every predicate that the module defines.
-pub(crate) fn exported_by(
-    alloc: Global,
-    clause: &Term,
-) -> Result<Option<Indicators>, AllocError>
+pub(crate) fn exported_by(alloc: Global, clause: &Term) -> Result<Option<Indicators>, AllocError>
     ensures { IfOk result (λ exports. exports ≡ exported_by (declaration clause.now)) }
 {
     match declaration_of(alloc, clause)? {

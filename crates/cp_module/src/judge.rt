@@ -33,24 +33,30 @@ pub(crate) fn later_cause(
     }
 }
 
-fn declaration_cause(
-    above: &Above,
-    said: Option<Declaration>,
-) -> Result<Option<Why>, AllocError>
+fn declaration_cause(above: &Above, said: Option<Declaration>) -> Result<Option<Why>, AllocError>
     ensures { IfOk result (λ cause. IsDeclarationCause above.now said cause) }
 {
     match said {
         None => Ok(Some(Why::BadDeclaration)),
-        Some(Declaration::Module { name: _, exports: _ }) => Ok(Some(Why::BadDeclaration)),
-        Some(Declaration::Operators {
-            priority,
-            kind,
-            names,
-        }) => Ok(operators_cause(priority, &kind, names.as_slice())),
-        Some(Declaration::Shared {
-            suspends: _suspends,
-            preds,
-        }) => {
+        Some(
+            Declaration::Module {
+                name: _,
+                exports: _,
+            },
+        ) => Ok(Some(Why::BadDeclaration)),
+        Some(
+            Declaration::Operators {
+                priority,
+                kind,
+                names,
+            },
+        ) => Ok(operators_cause(priority, &kind, names.as_slice())),
+        Some(
+            Declaration::Shared {
+                suspends: _suspends,
+                preds,
+            },
+        ) => {
             let cause = sharing_cause(above, preds.as_slice())?;
             Ok(cause)
         }
@@ -99,10 +105,7 @@ fn are_defined(above: &Above, preds: &[Indicator]) -> Result<bool, AllocError>
 }
 
 /// Whether one of the predicates that a header exports is not defined.
-pub(crate) fn are_undefined(
-    above: &Above,
-    exports: &Option<Indicators>,
-) -> Result<bool, AllocError>
+pub(crate) fn are_undefined(above: &Above, exports: &Option<Indicators>) -> Result<bool, AllocError>
     ensures { IfOk result (λ found. IsUndefined above.now exports.now found) }
 {
     match exports {

@@ -14,11 +14,7 @@ use cp_read::ReadClause;
 use std::alloc::{AllocError, Global};
 
 /// What a file with this base name and this text is refused for by itself, if it is refused.
-pub(crate) fn refused(
-    alloc: Global,
-    base: &[u8],
-    text: &Text,
-) -> Result<Option<Cause>, AllocError>
+pub(crate) fn refused(alloc: Global, base: &[u8], text: &Text) -> Result<Option<Cause>, AllocError>
     ensures { IfOk result (λ cause. cause ≡ refused base.now text.now) }
 {
     match text.clauses.as_slice() {

@@ -58,6 +58,10 @@ fn part(file: Bytes, text: Text) -> Loaded
     requires { refused (base_of file) text ≡ None }
     ensures { result ≡ Loaded.Part (part file text) }
 {
-    let Text { clauses, ops, fault: _ } = text;
+    let Text {
+        clauses,
+        ops,
+        fault: _,
+    } = text;
     Loaded::Part(ModulePart::new(file, clauses, ops))
 }

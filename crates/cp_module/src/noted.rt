@@ -13,11 +13,7 @@ use cp_term::{Cell, Term};
 use std::alloc::{AllocError, Global};
 
 /// Notes what a clause says of predicates.
-pub(crate) fn note(
-    alloc: Global,
-    above: &mut Above,
-    clause: &ReadClause,
-) -> Result<(), AllocError>
+pub(crate) fn note(alloc: Global, above: &mut Above, clause: &ReadClause) -> Result<(), AllocError>
     ensures { OnOk result ((p : Named) → known_in above.new p ≡ known_behind clause.now p (known_in above.old p)) }
 {
     if is_declaration(&clause.term) {
@@ -27,11 +23,7 @@ pub(crate) fn note(
     }
 }
 
-fn note_declaration(
-    alloc: Global,
-    above: &mut Above,
-    clause: &Term,
-) -> Result<(), AllocError>
+fn note_declaration(alloc: Global, above: &mut Above, clause: &Term) -> Result<(), AllocError>
     ensures { OnOk result ((p : Named) → known_in above.new p ≡ with_sharing (is_in (shares_by (declaration clause.now)) p) (known_in above.old p)) }
 {
     let said = declaration_of(alloc, clause)?;

@@ -18,11 +18,13 @@ pub(crate) fn change_operators(
     ensures { OnOk result (ops.new ≡ ops_after ops.old clause.now) }
 {
     match declaration_of(alloc, clause)? {
-        Some(Declaration::Operators {
-            priority,
-            kind,
-            names,
-        }) => declare_all(ops, priority, &kind, names.as_slice()),
+        Some(
+            Declaration::Operators {
+                priority,
+                kind,
+                names,
+            },
+        ) => declare_all(ops, priority, &kind, names.as_slice()),
         _ => Ok(()),
     }
 }

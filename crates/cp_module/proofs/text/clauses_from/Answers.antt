@@ -50,9 +50,9 @@ returns-in-Err-Syntax c =
     let h : Answers (Err (Syntax line w)) old new ops = subst P is c.next_clause.ensures in
     let most : c.from-most.result + 1 ≡ suc (length c.args.tokens) = omega (arith, c.from-most.ensures, c.len.ensures) in
     let found : (let t : Text = record { clauses = c.clauses.clauses; ops = ops; fault = Some (record { line = line; why = syntax_why w }) } in t) ≡ clauses_from (suc (length c.args.tokens)) c.args.ops c.args.tokens =
-        fault_whole (c.from-most.result + 1) c.clauses.turn ops c.clauses.clauses old new line w _ c.clauses-test.true c.clauses.invariant.fresh c.clauses.invariant.bounds h c.clauses.invariant.whole
-        ∙ ap (λ n. clauses_from n c.args.ops c.new-reader.result.rest) most
-        ∙ ap (λ (r : Reading). clauses_from (suc (length c.args.tokens)) c.args.ops r.rest) c.new-reader.ensures in
+    fault_whole (c.from-most.result + 1) c.clauses.turn ops c.clauses.clauses old new line w _ c.clauses-test.true c.clauses.invariant.fresh c.clauses.invariant.bounds h c.clauses.invariant.whole
+    ∙ ap (λ n. clauses_from n c.args.ops c.new-reader.result.rest) most
+    ∙ ap (λ (r : Reading). clauses_from (suc (length c.args.tokens)) c.args.ops r.rest) c.new-reader.ensures in
     cc
 
 pub returns : goal.returns
