@@ -1,0 +1,14 @@
+pub mod Words
+pub mod Paths
+pub mod Texts
+pub mod Causes
+pub mod Parts
+pub mod Answers
+pub mod Operators
+pub mod Above
+pub mod Rows
+pub mod Goals
+pub mod Least
+pub mod Headers
+pub mod Judging
+pub mod LanguageWords
