@@ -7,14 +7,14 @@ use crate::why::Why;
 
 /// What is refused on a line, counted from 1.
 #[derive(Debug, Clone, Copy, Drop)]
-pub(crate) struct Cause {
-    pub(crate) line: u32,
-    pub(crate) why: Why,
+pub struct Cause {
+    pub line: u32,
+    pub why: Why,
 }
 
 impl Cause {
     /// The cause on a line, if there is one.
-    pub(crate) fn on(line: u32, why: Option<Why>) -> Option<Cause>
+    pub fn on(line: u32, why: Option<Why>) -> Option<Cause>
         ensures { result ≡ least (cause_on line why) }
     {
         match why {
@@ -31,7 +31,7 @@ impl Cause {
 }
 
 /// What counts of what counts in a part of a file and in the part behind it.
-pub(crate) fn soonest(cause: Option<Cause>, behind: Option<Cause>) -> Option<Cause>
+pub fn soonest(cause: Option<Cause>, behind: Option<Cause>) -> Option<Cause>
     ensures { result ≡ soonest cause behind }
 {
     match (cause, behind) {

@@ -21,6 +21,7 @@ mod to_come;
 mod why;
 mod words;
 
+pub use cause::{Cause, soonest};
 pub use module::{Loaded, module_of};
 pub use part::{ModulePart, ReadClauses};
 pub use paths::{base_of, imported_file};

@@ -1,0 +1,8 @@
+pub mod Modules
+pub mod Imports
+pub mod Written
+pub mod Exported
+pub mod Refusals
+pub mod Linked
+pub mod Lawful
+pub mod Answers
