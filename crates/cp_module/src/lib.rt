@@ -27,3 +27,6 @@ pub use part::{ModulePart, ReadClauses};
 pub use paths::{base_of, imported_file};
 pub use refusal::Refusal;
 pub use why::Why;
+
+#[cfg(test)]
+mod tests;
