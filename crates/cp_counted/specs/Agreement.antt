@@ -1,18 +1,16 @@
 -- Terms whose keys do not agree do not unify.
-use Rattle.std.specs.Prelude.{◌≡◌, ℕ, zero, suc, ◌+◌, Bool, true, false, cond, ◌&&◌, List, [], ◌∷◌, nat_eq, max, Option, Some, None, is_some}
-use Rattle.std.specs.Ordering.{int_eq}
-use Rattle.std.specs.Str.{bytes_eq}
+use Rattle.std.specs.Prelude.{◌≡◌, ℕ, ◌+◌, Bool, true, false, cond, List, [], ◌∷◌, is_some}
 use Rattle.std.proofs.Common.{refl, sym, ap, ◌∙◌}
 use Rattle.std.proofs.lemmas.Bool.{false≢true}
 use Rattle.cp_term.specs.declared.cell.Cell.{Cell}
 use Rattle.cp_term.specs.declared.cell.Cell.TheVariants.{Var, Int, Atom, Func}
 use Rattle.cp_term.specs.CellEq.{cell_eq}
 use Rattle.cp_term.specs.Numbering.{next_variable, fresh, renamed}
-use Rattle.cp_term.specs.Unification.{unify, unify_by, unifiable_apart, disagreement, disagreement_under, first_disagreement, Disagreement, Clash}
+use Rattle.cp_term.specs.Unification.{unify_by, unifiable_apart, disagreement, Disagreement, Clash}
 use Rattle.cp_counted.specs.declared.key.Key.{Key}
 use Rattle.cp_counted.specs.declared.key.Key.TheVariants as key
 use Rattle.cp_counted.specs.declared.key.Key.TheVariants.{Missing}
-use Rattle.cp_counted.specs.Keys.{term_key, cell_key, argument_key, keys_agree}
+use Rattle.cp_counted.specs.Keys.{term_key, cell_key, keys_agree}
 
 apart_arguments : (c d : Cell) (cs ds : List Cell) → keys_agree (cell_key c) (cell_key d) ≡ false → disagreement (c ∷ cs) (d ∷ ds) ≡ Clash
 apart_arguments (Var u) d cs ds h = absurd (false≢true (sym h))
