@@ -1,9 +1,6 @@
 use super::*;
-use cp_code::{
-    Assertions, Clause, Clauses, GoalMarks, Imports, Names, OpTables, Peers, PredInfo, PredKind,
-    PredNames, Preds, Program, TypeRow, Types,
-};
-use cp_term::{Cell, Cells, Name, PredName, Term};
+use cp_code::{Clause, Clauses, TypeRow, Types};
+use cp_term::{Cell, Cells, Name, Term};
 use std::alloc::Global;
 use std::test::Fail;
 
@@ -22,14 +19,14 @@ fn term(cells: Cells) -> Result<Term, Fail> {
     }
 }
 
-// pred p(X) : t(X)
-fn declaration(alloc: Global, property: &[u8]) -> Result<Term, Fail> {
+// pred p(X) : int(X)
+fn declaration(alloc: Global) -> Result<Term, Fail> {
     let mut cells = Cells::new(alloc);
     cells.push(functor(alloc, b"pred", 1)?)?;
     cells.push(functor(alloc, b":", 2)?)?;
     cells.push(functor(alloc, b"p", 1)?)?;
     cells.push(Cell::Var(0))?;
-    cells.push(functor(alloc, property, 1)?)?;
+    cells.push(functor(alloc, b"int", 1)?)?;
     cells.push(Cell::Var(0))?;
     term(cells)
 }
@@ -54,41 +51,6 @@ fn clauses(alloc: Global, cells: Cells) -> Result<Clauses, Fail> {
     Ok(clauses)
 }
 
-// the clause p(X)
-fn preds(alloc: Global) -> Result<Preds, Fail> {
-    let mut cells = Cells::new(alloc);
-    cells.push(functor(alloc, b"p", 1)?)?;
-    cells.push(Cell::Var(0))?;
-    let mut preds = Preds::new(alloc);
-    preds.push(PredInfo {
-        name: PredName {
-            module: name(alloc, b"m")?,
-            name: name(alloc, b"p")?,
-            arity: 1,
-        },
-        clauses: clauses(alloc, cells)?,
-        kind: PredKind::Rules,
-        goals: GoalMarks::new(alloc),
-    })?;
-    Ok(preds)
-}
-
-fn program(alloc: Global) -> Result<Program, Fail> {
-    Ok(Program {
-        first: name(alloc, b"m")?,
-        preds: preds(alloc)?,
-        shared: PredNames::new(alloc),
-        exports: PredNames::new(alloc),
-        peers: Peers::new(alloc),
-        types: types(alloc)?,
-        checks: Assertions::new(alloc),
-        modules: Names::new(alloc),
-        ops: OpTables::new(alloc),
-        imports: Imports::new(alloc),
-        written: 1,
-    })
-}
-
 // the type t without clauses
 fn types(alloc: Global) -> Result<Types, Fail> {
     let mut types = Types::new(alloc);
@@ -102,13 +64,9 @@ fn types(alloc: Global) -> Result<Types, Fail> {
 #[test]
 fn an_assertion_is_read(rt: HostRuntime) -> Result<(), Fail> {
     let alloc = rt.alloc();
-    let program = program(alloc)?;
-    let module = name(alloc, b"m")?;
-    let read = assertion_of(alloc, &declaration(alloc, b"t")?, 7, &module, &program)?;
-    assert_eq!(rt; read.number, 1);
-    assert_eq!(rt; read.line, 7);
-    let refused = assertion_of(alloc, &declaration(alloc, b"u")?, 7, &module, &program);
-    assert_eq!(rt; refused.err(), Some(AssertionError::BadProperty));
+    let draft = Draft::of(alloc, &declaration(alloc)?)?;
+    let read = draft.settled(name(alloc, b"m")?, 7, Standing::Defined, true, 0)?;
+    assert_eq!(rt; (read.number, read.line), (1, 7));
     Ok(())
 }
 
