@@ -23,6 +23,7 @@ use Rattle.cp_link.specs.Linked.{linked}
 use Rattle.cp_load.specs.Types.{type_fault, typed}
 use Rattle.cp_load.specs.Assertions.{assertion_fault}
 use Rattle.cp_load.specs.Gathering.{gathered}
+use Rattle.cp_load.specs.Prelude as prelude
 use Rattle.cp_load.specs.Accepted.{Outcome, Accepts, Refuses, Missing, TooBig, outcome, program_of}
 
 -- ---- trees of files
@@ -225,3 +226,14 @@ no_main = refl
 no_main_is_asked_for : counts (outcome (one ":- module(m, []).\np.\n") (codes "m.pl") false) ≡ counted 1 1 0
 unfolding utf8_valid_len is_utf8 chars encode_utf8 outcome gathered text_of causes.refused base_of imported_file refusals.refused linked type_fault typed assertion_fault drafted formula demands_of uses body_of builtin_goal
 no_main_is_asked_for = refl
+
+-- ---- two files of one name of a module, and the prelude
+
+two_files_of_one_module : of (λ name. if bytes_eq name (codes "d/m.pl") then Some (codes ":- module(m, [p/0]).\np.\n") else one ":- module(m, [main/0]).\n:- use_module('d/m').\nmain :- true.\n" name) ≡ refused_in "d/m.pl" 1 why.DuplicateModule
+unfolding utf8_valid_len is_utf8 chars encode_utf8 outcome gathered text_of causes.refused base_of imported_file refusals.refused linked type_fault typed assertion_fault drafted formula demands_of uses body_of builtin_goal
+two_files_of_one_module = refl
+
+-- the prelude is a module like others
+prelude_is_accepted : causes.refused (codes "prelude") (text_of prelude.text) ≡ None
+unfolding utf8_valid_len is_utf8 chars encode_utf8 outcome gathered text_of causes.refused base_of imported_file refusals.refused linked type_fault typed assertion_fault drafted formula demands_of uses body_of builtin_goal
+prelude_is_accepted = refl
