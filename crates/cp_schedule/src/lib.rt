@@ -2,7 +2,9 @@
 #![tactic(auto)]
 
 mod awake;
+mod end;
 mod picks;
 mod seat;
 
+pub use end::{SimEnd, end_record};
 pub use picks::drive_picks;
