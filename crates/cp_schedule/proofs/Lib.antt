@@ -3,3 +3,4 @@ pub mod Histories
 pub mod GoingOn
 pub mod Turns
 pub mod Parking
+pub mod Starting

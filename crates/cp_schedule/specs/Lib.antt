@@ -1,3 +1,3 @@
 pub mod Record
 pub mod Awake
-pub mod Turns
+pub mod Ended
