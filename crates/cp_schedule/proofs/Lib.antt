@@ -4,3 +4,5 @@ pub mod GoingOn
 pub mod Turns
 pub mod Parking
 pub mod Starting
+pub mod Ending
+pub mod Choosing
