@@ -60,3 +60,10 @@ nothing (x ∷ xs) n b l e t = elim (eqb_tells n 0) [
 pub something : (n : ℕ) (b : Bool) → b ≡ (n == 0) → b ≡ false → 0 < n
 something zero b e f = let w : ⊥ = cc (e, f) in absurd w
 something (suc n) b e f = omega arith
+
+-- one worker more
+pub awake_next : {M : Type 0} (hall : List HallObject) (shells : List (ShellView M)) (n : ℕ) → awake_below hall shells (n + 1) ≡ awake_below hall shells n ++ cond (is_parked_place hall (slice_get shells n)) [] (n ∷ [])
+awake_next hall shells n = ap (λ m. awake_below hall shells m) next
+  where
+    next : n + 1 ≡ suc n
+    next = omega arith

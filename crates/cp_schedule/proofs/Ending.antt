@@ -62,7 +62,7 @@ ended_rest hall (s ∷ shells) parked = (rests_at hall s.number s.items (parked_
 
 from_map : {A B : Type 0} (f : A → B) (xs : List A) (i : ℕ) (y : B) → slice_get (map f xs) i ≡ Some y → (x : A) × ((slice_get xs i ≡ Some x) × (y ≡ f x))
 from_map f [] i y h = let w : ⊥ = cc in absurd w
-from_map f (x ∷ xs) zero y h = (x, refl, (let z : y ≡ f x = cc in z))
+from_map f (x ∷ xs) zero y h = (x, (refl, (let z : y ≡ f x = cc in z)))
 from_map f (x ∷ xs) (suc i) y h = from_map f xs i y h
 
 -- the engines of a record are those of its shells

@@ -43,9 +43,12 @@ engines_begin : {M : Type 0} (n : ℕ) (shells : List (ShellView M)) → ((i : �
     → map engine_now shells ≡ new_engines n (length shells)
 engines_begin n [] numbers idle = refl
 engines_begin {M} n (s ∷ shells) numbers idle =
-    ap (λ e. e ∷ map engine_now shells) (same_engine s n (numbers 0 s refl) (idle 0 s refl))
+    ap (λ e. e ∷ map engine_now shells) (same_engine s n (numbers 0 s refl ∙ first) (idle 0 s refl))
     ∙ ap (λ es. record { number = n; items = []; stand = stand.Parked 0 } ∷ es) (engines_begin (n + 1) shells (λ i t h. numbers (suc i) t h ∙ further i) (λ i t h. idle (suc i) t h))
   where
+    first : 0 + n ≡ n
+    first = omega arith
+
     further : (i : ℕ) → suc i + n ≡ i + (n + 1)
     further i = omega arith
 

@@ -26,7 +26,8 @@ fn push_unless(places: &mut Vec<usize>, place: usize, is_left_out: bool) -> Resu
     if is_left_out {
         return Ok(());
     }
-    places.push(place)
+    places.push(place)?;
+    Ok(())
 }
 
 /// The places of the workers that are not parked, by ascending number.
