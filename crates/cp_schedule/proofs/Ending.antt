@@ -1,5 +1,5 @@
 -- A run that ends where all its workers are parked is sound.
-use Rattle.std.proofs.Common.{◌≡◌, ℕ, zero, suc, ◌+◌, List, [], ◌∷◌, length, refl, sym, ◌∙◌, ap, subst, Bool, true, false, Option, Some, None, IsTrue}
+use Rattle.std.proofs.Common.{◌≡◌, ℕ, zero, suc, ◌+◌, List, [], ◌∷◌, length, refl, sym, ◌∙◌, ap, subst, true, Option, Some, None, IsTrue}
 use Rattle.std.specs.Prelude.{map, slice_get, IfSome}
 use Rattle.std.specs.List.{list_all}
 use Rattle.cp_call.specs.declared.item.Item.{Item}
@@ -8,16 +8,15 @@ use Rattle.cp_call.specs.declared.outcome.EngineEnd.{EngineEnd}
 use Rattle.cp_call.specs.declared.outcome.OutEntry.{OutEntry}
 use Rattle.cp_call.specs.declared.outcome.PredEnd.{PredEnd}
 use Rattle.cp_call.specs.declared.outcome.Outcome.{Outcome}
-use Rattle.cp_call.specs.Object.{is_parked}
 use Rattle.cp_call.specs.Life.{Rule}
-use Rattle.cp_call.specs.Sound.{Object, Setup, Going, Sound, AreTied, AllRest, EndsParkedOn, has_callers, is_engine, is_parked_on, stays_failed}
+use Rattle.cp_call.specs.Sound.{Setup, Going, Sound, AreTied, AllRest, EndsParkedOn, has_callers, is_engine, is_parked_on, stays_failed}
 use Rattle.cp_shell.specs.Parked.{parked_object}
 use Rattle.cp_shell.specs.Shell.{ShellView}
-use Rattle.cp_hall.specs.Hall.{HallObject, objects_of, AreLegal, state_now}
+use Rattle.cp_hall.specs.Hall.{HallObject, objects_of, AreLegal}
 use Rattle.cp_out.specs.Port.{Records}
-use Rattle.cp_schedule.specs.Record.{AreNew, AreDriven, IsLater, engine_now, pred_now, record_now, workers_setup}
-use Rattle.cp_schedule.specs.Awake.{is_parked_in, is_parked_at, is_parked_now, AllParked}
-use Rattle.cp_schedule.specs.Ended.{IsFresh, IsOfWorkers, StandsParked, HasRunTo, object_number, engine_ended, record_ended}
+use Rattle.cp_schedule.specs.Record.{AreNew, IsLater, engine_now, pred_now, record_now, workers_setup}
+use Rattle.cp_schedule.specs.Awake.{is_parked_in, is_parked_at, AllParked}
+use Rattle.cp_schedule.specs.Ended.{IsFresh, IsOfWorkers, HasRunTo, object_number, engine_ended, record_ended}
 use Rattle.cp_schedule.proofs.Parking.{ends_parked}
 use Rattle.cp_schedule.proofs.Starting.{starts_driven, starts_going}
 use Rattle.cp_schedule.proofs.Turns.{going_later}

@@ -30,10 +30,7 @@ fn engine_end<M: Machine>(shell: Shell<M>) -> Result<EngineEnd, AllocError>
 }
 
 /// The workers at the end, in order.
-fn engine_ends<M: Machine>(
-    alloc: Global,
-    shells: Vec<Shell<M>>,
-) -> Result<EngineEnds, AllocError>
+fn engine_ends<M: Machine>(alloc: Global, shells: Vec<Shell<M>>) -> Result<EngineEnds, AllocError>
     ensures { IfOk result (λ ends. ends ≡ map engine_ended shells.items) }
 {
     let mut ends = EngineEnds::new(alloc);

@@ -1,6 +1,5 @@
 use Rattle.std.proofs.Common.{◌∙◌, ap}
 use Rattle.std.specs.Prelude.{map}
-use Rattle.cp_schedule.specs.Record.{pred_now}
 use Rattle.cp_schedule.specs.Ended.{engine_ended}
 use Rattle.cp_schedule.proofs.Histories.{ended_now, ended_legal}
 use Rattle.cp_schedule.proofs.end.outcome_of.Goals as goal
