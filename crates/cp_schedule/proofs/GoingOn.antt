@@ -1,5 +1,5 @@
 -- A turn of one worker takes the record of a run on.
-use Rattle.std.proofs.Common.{◌≡◌, ◌≢◌, inl, inr, ℕ, zero, suc, ◌+◌, ◌<◌, ◌==◌, List, [], ◌∷◌, ◌++◌, length, refl, sym, ◌∙◌, ap, subst, Bool, true, false, cond, Option, Some, None, append_assoc, arith}
+use Rattle.std.proofs.Common.{◌≡◌, ◌≢◌, inl, inr, ℕ, suc, ◌+◌, ◌<◌, ◌==◌, List, [], ◌∷◌, ◌++◌, length, refl, sym, ◌∙◌, ap, subst, true, false, cond, Some, append_assoc}
 use Rattle.std.specs.Prelude.{map, slice_get, slice_set, MatchBool, ◌||◌}
 use Rattle.std.specs.List.{list_all, list_any}
 use Rattle.std.proofs.lemmas.Bool.{and_parts, ltb-true}
@@ -11,7 +11,6 @@ use Rattle.cp_call.specs.declared.call.Reply.TheVariants as reply
 use Rattle.cp_call.specs.declared.call.Entry.{Entry}
 use Rattle.cp_call.specs.declared.item.Item.{Item}
 use Rattle.cp_call.specs.declared.item.Item.TheVariants as item
-use Rattle.cp_call.specs.declared.item.PutReply.{PutReply}
 use Rattle.cp_call.specs.declared.item.PutReply.TheVariants as put
 use Rattle.cp_call.specs.declared.outcome.EngineEnd.{EngineEnd}
 use Rattle.cp_call.specs.declared.outcome.OutEntry.{OutEntry}
@@ -20,8 +19,8 @@ use Rattle.cp_call.specs.Object.{is_parked}
 use Rattle.cp_call.specs.History.{Limit, full, state_after}
 use Rattle.cp_call.specs.Life as life
 use Rattle.cp_call.specs.Asker.{IsFull}
-use Rattle.cp_call.specs.Added.{HasAdded, WasFullSince, IsRightSince, IsRightEventSince, RightRefusalsSince}
-use Rattle.cp_call.specs.Progress.{with_event, with_entry, IsCalled, IsRefused, IsWritten, IsElsewhere, IsReplied, IsAnswered, GoesOn, GoesOnBy, Pick}
+use Rattle.cp_call.specs.Added.{HasAdded, WasFullSince, IsRightSince, IsRightEventSince}
+use Rattle.cp_call.specs.Progress.{with_event, IsCalled, IsRefused, IsReplied, IsAnswered, GoesOn, GoesOnBy, Pick}
 use Rattle.cp_call.specs.Sound.{Object, Setup, own_entries, own_writes, entry_unless_full, asked_entries, wrote_entries, is_of_objects, is_lane, has_failed, stays_failed}
 use Rattle.cp_shell.specs.Parked.{is_remote}
 use Rattle.cp_hall.specs.Hall.{HallObject, objects_of, history_of, history_at, with_more, AreLegal}

@@ -1,5 +1,5 @@
 -- A hall of which the objects have more entries, as the objects of a record.
-use Rattle.std.proofs.Common.{◌≡◌, ◌≢◌, inl, inr, ℕ, zero, suc, ◌<◌, List, [], ◌∷◌, ◌++◌, length, refl, sym, ◌∙◌, ap, subst, Some, append_assoc, arith}
+use Rattle.std.proofs.Common.{◌≡◌, ◌≢◌, ℕ, zero, suc, ◌<◌, List, [], ◌∷◌, ◌++◌, length, refl, sym, ◌∙◌, ap, subst, Some, append_assoc, arith}
 use Rattle.std.specs.Prelude.{map, slice_get, slice_set}
 use Rattle.cp_list.specs.Lists.{IsPrefix}
 use Rattle.cp_term.specs.declared.cell.Cell.{Cell}
@@ -12,9 +12,9 @@ use Rattle.cp_call.specs.Progress.{with_entry}
 use Rattle.cp_call.specs.Sound.{Object, IsKept, AreKept}
 use Rattle.cp_call.specs.Sound as sound
 use Rattle.cp_call.proofs.Growing.{state_after-push}
-use Rattle.cp_hall.specs.Hall.{HallObject, objects_of, histories_of, ended_histories, history_of, history_at, with_entries, with_more, AreLegal}
+use Rattle.cp_hall.specs.Hall.{HallObject, objects_of, histories_of, ended_histories, history_at, with_entries, with_more, AreLegal}
 use Rattle.cp_schedule.specs.Record.{pred_now}
-use Rattle.cp_schedule.proofs.Lists.{append_nil, get_map}
+use Rattle.cp_schedule.proofs.Lists.{append_nil}
 
 same_object : (a b : HallObject) → a.object ≡ b.object → a.history ≡ b.history → a ≡ b
 same_object a b p q =

@@ -3,3 +3,6 @@ pub mod Histories
 pub mod GoingOn
 pub mod Turns
 pub mod Parking
+pub mod Starting
+pub mod Ending
+pub mod Choosing

@@ -1,5 +1,5 @@
 -- A turn of one shell comes later, and later moments of later moments are later.
-use Rattle.std.proofs.Common.{◌≡◌, ◌≢◌, ◌⊎◌, inl, inr, ℕ, zero, suc, ◌+◌, ◌<◌, ◌==◌, List, [], ◌∷◌, ◌++◌, length, refl, sym, ◌∙◌, ap, subst, Bool, true, false, Option, Some, None, append_assoc, arith}
+use Rattle.std.proofs.Common.{◌≡◌, ◌≢◌, ◌⊎◌, inl, inr, ℕ, ◌+◌, List, [], ◌∷◌, ◌++◌, length, refl, sym, ◌∙◌, ap, subst, Bool, true, Some, arith}
 use Rattle.std.specs.Prelude.{map, slice_get, slice_set, Result, Ok, Err, MatchResult}
 use Rattle.std.specs.List.{list_all}
 use Rattle.std.proofs.lemmas.Bool.{and_parts, and_from}
@@ -8,9 +8,7 @@ use Rattle.cp_list.specs.Lists.{IsPrefix}
 use Rattle.cp_call.specs.declared.call.Entry.{Entry}
 use Rattle.cp_call.specs.declared.item.Item.{Item}
 use Rattle.cp_call.specs.declared.item.PutReply.TheVariants as put
-use Rattle.cp_call.specs.declared.outcome.EngineEnd.{EngineEnd}
 use Rattle.cp_call.specs.declared.outcome.OutEntry.{OutEntry}
-use Rattle.cp_call.specs.declared.outcome.Outcome.{Outcome}
 use Rattle.cp_call.specs.Added.{HasAdded}
 use Rattle.cp_call.specs.Life as life
 use Rattle.cp_call.specs.Progress.{GoesOnBy, Pick}
@@ -26,7 +24,7 @@ use Rattle.cp_hall.specs.Hall.{HallObject, objects_of, history_at, AreLegal}
 use Rattle.cp_schedule.specs.Record.{engine_now, pred_now, record_now, workers_setup, AreDriven, IsReady, IsLater}
 use Rattle.cp_schedule.proofs.Lists.{append_nil, cancel, get_map, map_set, get_set, get_set_other, set_same, length_set, only_mine}
 use Rattle.cp_schedule.proofs.Histories.{same_hall, legal_before}
-use Rattle.cp_schedule.proofs.GoingOn.{Grows, grows_by, pick_at, with_events, turn_goes_on, goes_on-on}
+use Rattle.cp_schedule.proofs.GoingOn.{grows_by, pick_at, with_events, turn_goes_on, goes_on-on}
 
 all_failed_before : (xs ys : List OutEntry) → list_all has_failed (xs ++ ys) ≡ true → list_all has_failed xs ≡ true
 all_failed_before [] ys h = refl

@@ -1,5 +1,5 @@
 -- Which workers are parked, by what their events and the objects tell.
-use Rattle.std.specs.Prelude.{ℕ, ◌≡◌, Bool, true, false, List, Option, Some, None, slice_get}
+use Rattle.std.specs.Prelude.{ℕ, zero, suc, ◌≡◌, Bool, true, false, cond, List, [], ◌∷◌, ◌++◌, Option, Some, None, slice_get}
 use Rattle.std.specs.List.{list_all}
 use Rattle.cp_call.specs.declared.item.Item.{Item}
 use Rattle.cp_call.specs.Object.{is_parked}
@@ -28,3 +28,17 @@ KnowsObjects count items = list_all (is_of_objects count) items ≡ true
 -- every worker is parked
 abbrev pub AllParked : {M : Type 0} → List HallObject → List (ShellView M) → Type 0
 AllParked {M} hall shells = (i : ℕ) (s : ShellView M) → slice_get shells i ≡ Some s → is_parked_now hall s.number s.items ≡ true
+
+-- whether the worker of a shell is parked; where there is no shell nobody is awake
+abbrev pub is_parked_place : {M : Type 0} → List HallObject → Option (ShellView M) → Bool
+is_parked_place hall None = true
+is_parked_place hall (Some s) = is_parked_now hall s.number s.items
+
+-- the places of the workers that are not parked, of those among the first so many, in order
+abbrev pub awake_below : {M : Type 0} → List HallObject → List (ShellView M) → ℕ → List ℕ
+awake_below hall shells zero = []
+awake_below hall shells (suc n) = awake_below hall shells n ++ cond (is_parked_place hall (slice_get shells n)) [] (n ∷ [])
+
+-- the events of each shell name none but the first so many objects
+abbrev pub AllKnow : {M : Type 0} → ℕ → List (ShellView M) → Type 0
+AllKnow {M} count shells = (i : ℕ) (s : ShellView M) → slice_get shells i ≡ Some s → KnowsObjects count s.items

@@ -1,7 +1,6 @@
 -- The record of a run at some moment: its engines by what their shells have kept, its objects in the states that their
 -- histories leave, and the entries of its port.
-use Rattle.std.specs.Prelude.{ℕ, ◌+◌, ◌≡◌, Bool, true, false, List, [], ◌∷◌, ◌++◌, map, None, Some, slice_get, length}
-use Rattle.cp_call.specs.declared.item.Item.{Item}
+use Rattle.std.specs.Prelude.{ℕ, ◌+◌, ◌≡◌, true, List, [], map, None, Some, slice_get, length}
 use Rattle.cp_call.specs.declared.outcome.Stand.TheVariants as stand
 use Rattle.cp_call.specs.declared.outcome.EngineEnd.{EngineEnd}
 use Rattle.cp_call.specs.declared.outcome.OutEntry.{OutEntry}

@@ -2,7 +2,11 @@
 #![tactic(auto)]
 
 mod awake;
+mod end;
 mod picks;
 mod seat;
+mod seed;
 
+pub use end::{SimEnd, end_record};
 pub use picks::drive_picks;
+pub use seed::simulate;
