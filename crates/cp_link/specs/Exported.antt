@@ -1,6 +1,6 @@
 -- Which goals may be written with a module: those of predicates that a module of the program, the prelude or an active module
 -- that the file uses exports.
-use Rattle.std.specs.Prelude.{ℕ, Bool, false, ◌&&◌, ◌||◌, List, map, Option, Some, None}
+use Rattle.std.specs.Prelude.{ℕ, Bool, false, ◌&&◌, ◌||◌, List, Option, Some, None}
 use Rattle.std.specs.List.{list_any}
 use Rattle.std.specs.Str.{bytes_eq}
 use Rattle.cp_term.specs.declared.pred_name.PredName.{PredName}
@@ -10,14 +10,11 @@ use Rattle.cp_code.specs.Programs.{is_of_prelude}
 use Rattle.cp_declaration.specs.declared.indicator.Indicator.{Indicator}
 use Rattle.cp_module.specs.Parts.{Part}
 use Rattle.cp_module.specs.Causes.{is_in}
-use Rattle.cp_link.specs.Written.{Written}
+use Rattle.cp_link.specs.declared.spot.Written.{Written}
+use Rattle.cp_link.specs.declared.exported.ModuleExports.{ModuleExports}
 use Rattle.cp_link.specs.Modules.{name_of, in_module, exports_of}
 
 -- a module and what it exports
-pub record ModuleExports : Type 0 where
-  pub module_name : List ℕ
-  pub exports : List Indicator
-
 abbrev pub shown : Part → ModuleExports
 shown p = record { module_name = name_of p; exports = exports_of p }
 

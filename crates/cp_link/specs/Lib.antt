@@ -3,6 +3,7 @@ pub mod Imports
 pub mod Written
 pub mod Exported
 pub mod Refusals
+pub mod Kept
 pub mod Linked
 pub mod Lawful
 pub mod Answers

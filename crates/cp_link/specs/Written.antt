@@ -1,33 +1,16 @@
 -- The goals of a body that are written with a module in front of them. They are looked for in the places of goals, through
 -- `,`, `;`, `->` and `\+`; of several modules in front of a goal the inner one counts. What stands behind another module is
 -- not taken apart.
-use Rattle.std.specs.Prelude.{ℕ, zero, suc, Bool, false, ◌||◌, ◌&&◌, nat_eq, if◌then◌else◌, cond, List, [], ◌∷◌, ◌++◌, Option, Some, None}
-use Rattle.std.specs.List.{list_any, flat_map}
+use Rattle.std.specs.Prelude.{ℕ, zero, suc, ◌||◌, if◌then◌else◌, cond, List, [], ◌∷◌, ◌++◌, Option, Some, None}
 use Rattle.std.specs.Str.{bytes_eq}
 use Rattle.cp_term.specs.declared.cell.Cell.{Cell}
-use Rattle.cp_term.specs.declared.cell.Cell.TheVariants.{Var, Int, Atom, Func}
-use Rattle.cp_term.specs.declared.pred_name.PredName.{PredName}
-use Rattle.cp_term.specs.PredNameEq.{pred_name_eq}
+use Rattle.cp_term.specs.declared.cell.Cell.TheVariants.{Atom, Func}
 use Rattle.cp_goal.specs.Folds.{of_terms}
 use Rattle.cp_code.specs.Bodies.{is}
 use Rattle.cp_code.specs.Clauses.{is_neck}
-use Rattle.cp_code.specs.Programs.{is_of_prelude}
-use Rattle.cp_declaration.specs.declared.indicator.Indicator.{Indicator}
-use Rattle.cp_module.specs.Parts.{Part}
-use Rattle.cp_module.specs.Causes.{headed, is_in}
-use Rattle.cp_link.specs.Modules.{name_of, in_module, exports_of}
-
--- a goal behind a module, by its predicate; a variable and an integer are of none
-pub record Written : Type 0 where
-  pub module_name : List ℕ
-  pub pred : Option Indicator
-
--- What a term is in the place of a goal: its first cell, what is written in it where the file's own module sees it, and what is
--- written in it where another module does; none stands for the goal itself.
-pub record Spot : Type 0 where
-  pub first : Cell
-  pub inside : List Written
-  pub behind : Option (List Written)
+use Rattle.cp_module.specs.Causes.{headed}
+use Rattle.cp_link.specs.declared.spot.Written.{Written}
+use Rattle.cp_link.specs.declared.spot.Spot.{Spot}
 
 abbrev pub nothing : Cell → Spot
 nothing c = record { first = c; inside = []; behind = None }

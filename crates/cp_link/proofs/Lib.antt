@@ -1,0 +1,5 @@
+pub mod DistinctLaws
+mod LeastLaws
+mod Passing
+mod Refusing
+pub mod StepLaws
