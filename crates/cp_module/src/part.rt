@@ -1,6 +1,7 @@
 ghost use Rattle.std.specs.Prelude.{◌≡◌, None};
 ghost use Rattle.cp_module.specs.Paths.{base_of};
 ghost use Rattle.cp_module.specs.Causes.{refused};
+ghost use Rattle.cp_module.specs.Parts.{IsPart};
 
 use cp_io::Bytes;
 use cp_list::ListOf;
@@ -47,7 +48,8 @@ impl ModulePart {
 
     /// The clauses of the file, declarations included.
     pub fn clauses(&self) -> &ReadClauses
-        ensures { result.now ≡ self.now.clauses }
+        ensures clauses { result.now ≡ self.now.clauses }
+        ensures accepted { IsPart self.now }
     {
         &self.clauses
     }
