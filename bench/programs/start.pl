@@ -1,0 +1,3 @@
+% Nothing but a start.
+:- module(start, [main/0]).
+main :- true.

@@ -1,3 +1,0 @@
-:- module(parked, [main/0]).
-:- concurrent q/1.
-main :- retract_fact(q(_)).
