@@ -1,5 +1,4 @@
 use Rattle.std.proofs.Common.{length, sym, ◌∙◌, ap, subst}
-use Rattle.cp_term.specs.Preorder.{arguments}
 use Rattle.cp_heap.specs.State.{substitution, terms_at, instance_at}
 use Rattle.cp_heap.proofs.lemmas.Instances.{instance-again}
 use Rattle.cp_goal.specs.Builtins.{End}
