@@ -1,5 +1,5 @@
-use Rattle.std.proofs.Common.{◌≡◌, Bool, true, false, [], length, map, sym, ◌∙◌, ap, subst}
-use Rattle.std.specs.Prelude.{IsTrue}
+use Rattle.std.proofs.Common.{◌≡◌, [], length, map, sym, ◌∙◌, ap, subst}
+use Rattle.std.proofs.lemmas.Bool.{false≢true}
 use Rattle.cp_term.specs.Preorder.{arguments}
 use Rattle.cp_heap.specs.State.{instance_at}
 use Rattle.cp_builtin.proofs.ListLaws.{length-instances}
@@ -17,9 +17,8 @@ returns-then-is_empty-clause-moved c budget =
     let r = c.args.run.now in
     let cs = map check_shown c.args.checks.now in
     let hs = map check_shown c.in_ok-held.held in
-    let yes : IsTrue c.is_empty.result = subst IsTrue (sym c.if-is_empty.true) tt in
     c.in_ok-open_rules.ensures.moved code
-    ∙ rules-none code r c.args.pred.now cs hs (rules_from code c.args.place 0) (instance_in (here_of r) c.args.goal.at) c.args.rest c.args.level (ap (map check_shown) (c.is_empty.ensures.0 yes))
+    ∙ rules-none code r c.args.pred.now cs hs (rules_from code c.args.place 0) (instance_in (here_of r) c.args.goal.at) c.args.rest c.args.level (ap (map check_shown) (c.is_empty.ensures.0 c.if-is_empty.true))
     (c.in_ok-held.ensures.held ∙ ap (tests.held (map type_of c.args.program.now.types) cs) c.requires.arguments)
 
 pub returns-clause-moved : goal.returns-clause-moved
@@ -28,7 +27,7 @@ returns-clause-moved c budget =
     let r = c.args.run.now in
     let cs = map check_shown c.args.checks.now in
     let hs = map check_shown c.in_ok-held.held in
-    let no : (hs ≡ [] → ⊥) = λ e. subst IsTrue c.if-is_empty.false (c.is_empty.ensures.1 (none-shown c.in_ok-held.held e)) in
+    let no : (hs ≡ [] → ⊥) = λ e. false≢true (sym c.if-is_empty.false ∙ c.is_empty.ensures.1 (none-shown c.in_ok-held.held e)) in
     c.in_ok-open_tested.ensures.moved code
     ∙ rules-some code r c.args.pred.now cs hs (rules_from code c.args.place 0) (instance_in (here_of r) c.args.goal.at) c.args.rest c.args.level no
     (c.in_ok-held.ensures.held ∙ ap (tests.held (map type_of c.args.program.now.types) cs) c.requires.arguments)
