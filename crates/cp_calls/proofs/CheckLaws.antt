@@ -1,16 +1,14 @@
 -- Checks speak of arguments that there are.
-use Rattle.std.proofs.Common.{◌≡◌, ℕ, ◌<◌, ◌≤◌, Bool, true, false, cond, not, Some, None, Option, List, [], ◌∷◌, refl, subst, arith}
+use Rattle.std.proofs.Common.{◌≡◌, ℕ, ◌<◌, ◌≤◌, Bool, true, false, cond, Some, None, Option, List, [], ◌∷◌, refl, subst, arith}
 use Rattle.std.specs.Prelude.{◌&&◌}
 use Rattle.std.proofs.lemmas.Bool.{false≢true}
 use Rattle.std.specs.List.{filter_map, cons_option}
-use Rattle.std.proofs.lemmas.List.Elements.{All-cons, All-nil, All-tail}
-use Rattle.cp_term.specs.declared.cell.Cell.{Cell}
+use Rattle.std.proofs.lemmas.List.Elements.{All-cons, All-nil}
 use Rattle.cp_term.specs.declared.pred_name.PredName.{PredName}
 use Rattle.cp_term.specs.PredNameEq.{pred_name_eq, pred_name_eq-true}
 use Rattle.cp_code.specs.declared.assertion.Assertion.{Assertion}
 use Rattle.cp_code.specs.Checks as tests
-use Rattle.cp_code.specs.Checks.{held, is_calls}
-use Rattle.cp_code.specs.Properties.{Prop, TypeRow, Of, ListOf, Both, Either, Always, holds}
+use Rattle.cp_code.specs.Properties.{Prop, Of, ListOf, Both, Either, Always}
 use Rattle.cp_code.specs.Programs.{prop_of, is_check, tested_kind, check_of_kind, check_on}
 use Rattle.cp_props.specs.Arguments.{HasArguments, HaveArguments}
 use Rattle.cp_calls.specs.Goals.{HasGoodCheck, AreGoodChecks}
@@ -28,18 +26,6 @@ more-prop m n Always le h = tt
 
 pub more-arguments : (m n : ℕ) (cs : List tests.Check) → m ≤ n → HaveArguments m cs → HaveArguments n cs
 more-arguments m n cs le all k d lt = (more-prop m n _ le (all k d lt).0, more-prop m n _ le (all k d lt).1)
-
--- those that were held are some of them
-pub held-arguments : (n : ℕ) (types : List TypeRow) (cs : List tests.Check) (args : List (List Cell)) → HaveArguments n cs → HaveArguments n (held types cs args)
-unfolding IsGood held
-held-arguments n types [] args all = all
-held-arguments n types (c ∷ cs) args all =
-    let more : HaveArguments n (held types cs args) = held-arguments n types cs args (All-tail (IsGood n) c cs all) in
-    let first : IsGood n c = all 0 c (omega arith) in
-    elim (not (is_calls c.kind) && holds types c.before args) as (λ b. HaveArguments n (cond b (c ∷ held types cs args) (held types cs args))) [
-      | true ↦ All-cons (IsGood n) c (held types cs args) first more
-      | false ↦ more
-    ]
 
 -- ---- the checks of a predicate
 

@@ -1,4 +1,5 @@
 pub mod GoalLaws
 pub mod SeenLaws
 pub mod CheckLaws
+pub mod ExitLaws
 pub mod RemoteLaws

@@ -1,5 +1,5 @@
 -- What a call needs of a program and of its goal.
-use Rattle.std.specs.Prelude.{◌≡◌, ℕ, List, [], ◌∷◌, length, slice_get, Some, get_or}
+use Rattle.std.specs.Prelude.{◌≡◌, ℕ, List, [], ◌∷◌, length, slice_get, Some}
 use Rattle.cp_term.specs.declared.cell.Cell.{Cell}
 use Rattle.cp_term.specs.declared.cell.Cell.TheVariants.{Func}
 use Rattle.cp_term.specs.Preorder.{arguments}
@@ -8,8 +8,6 @@ use Rattle.cp_code.specs.declared.pred_info.PredInfo.{PredInfo}
 use Rattle.cp_code.specs.declared.program.Program.{Program}
 use Rattle.cp_code.specs.Programs.{prop_of}
 use Rattle.cp_props.specs.Arguments.{HasArguments}
-use Rattle.cp_run.specs.declared.run.Run.{Run}
-use Rattle.cp_run.specs.Shown.{here_of, instance_in}
 
 -- an assertion speaks of arguments that its predicate has
 abbrev pub HasGoodCheck : Assertion → Type 0
@@ -22,10 +20,6 @@ AreGoodChecks (a ∷ more) = HasGoodCheck a × AreGoodChecks more
 -- each assertion does: loading refuses one of which that does not hold
 abbrev pub HasGoodChecks : Program → Type 0
 HasGoodChecks p = AreGoodChecks p.checks
-
--- the term at a place is there, and has no bound variable
-abbrev pub IsWhole : Run → ℕ → Type 0
-IsWhole r at = instance_in (here_of r) at ≡ get_or r.heap.terms at []
 
 -- it has as many arguments as the predicate
 abbrev pub HasPlacesFor : List Cell → ℕ → Type 0

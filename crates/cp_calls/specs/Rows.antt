@@ -25,6 +25,10 @@ rules_row code p cs rs g rest s next level = machine.rules_move code p cs rs g r
 abbrev pub opened_row : List Clause → (goal : List Cell) → Row
 opened_row rs g rest s next level units copies fs = machine.to (machine.Tries rs g rest s next (suc level)) units copies (machine.Mark (suc level) ∷ fs)
 
+-- the same in front of the exit of a call, where these checks are tested
+abbrev pub tested_row : PredName → List Check → List Clause → (goal : List Cell) → Row
+tested_row p cs rs g rest s next level = opened_row rs g (tree.Exit p cs g ∷ rest) s next level
+
 -- the call of a predicate of an active module
 abbrev pub remote_row : PredName → (goal : List Cell) → Row
 remote_row p g rest s next level = machine.calls_remote p g (handed_out g) rest s next level

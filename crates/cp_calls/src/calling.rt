@@ -1,4 +1,4 @@
-ghost use Rattle.std.specs.Prelude.{◌≡◌, ℕ, ◌<◌, [], None, Some, length, codes, get_or, IfOk, OnOk};
+ghost use Rattle.std.specs.Prelude.{◌≡◌, ℕ, ◌<◌, None, Some, length, codes, IfOk, OnOk};
 ghost use Rattle.cp_goal.specs.Builtins.{context};
 ghost use Rattle.cp_code.specs.Code.{Code};
 ghost use Rattle.cp_code.specs.Goals.{builtin_goal};
@@ -9,7 +9,7 @@ ghost use Rattle.cp_code.specs.Tree.{qualified};
 ghost use Rattle.cp_run.specs.Shown.{here_of, instance_in, shown, moved};
 ghost use Rattle.cp_run.specs.Stands.{Holds, Stands};
 ghost use Rattle.cp_run.specs.Gaining.{raise_row};
-ghost use Rattle.cp_calls.specs.Goals.{IsWhole, IsPredAt, HasPlacesFor, HasGoodChecks};
+ghost use Rattle.cp_calls.specs.Goals.{IsPredAt, HasPlacesFor, HasGoodChecks};
 ghost use Rattle.cp_goals.specs.Rows.{asks_row};
 ghost use Rattle.cp_calls.specs.Rows.{call_row, kind_row};
 
@@ -26,7 +26,7 @@ use std::alloc::AllocError;
 
 /// Runs a goal that is the call of a predicate, as the module `seer` sees it: one with rules, a shared one or one of an
 /// active module. Where the module sees none, `existence_error(procedure, M:N/A)` is raised (ISO/IEC 13211-1, 7.7.7). The
-/// term of the goal stands without bindings of its variables, and it is no builtin.
+/// goal is no builtin; its name and its arguments are those that it has with the bindings.
 pub fn run_pred(
     program: &Program,
     run: &mut Run,
@@ -40,11 +40,10 @@ pub fn run_pred(
     requires holds { Holds run.old }
     requires goal { goal.at < length run.old.heap.terms }
     requires rest { rest < length run.old.goals }
-    requires functor { functor_of (get_or run.old.heap.terms goal.at []) ≡ Some (name.now, arity) }
+    requires functor { functor_of (instance_in (here_of run.old) goal.at) ≡ Some (name.now, arity) }
     requires other { builtin_goal name.now arity ≡ None }
-    requires whole { IsWhole run.old goal.at }
     requires checks { HasGoodChecks program.now }
-    ensures moved { OnOk result ((budget : ℕ) → shown (code_of program.now budget) run.new ≡ moved (code_of program.now budget) run.old rest level (call_row (code_of program.now budget) seer.now (get_or run.old.heap.terms goal.at []))) }
+    ensures moved { OnOk result ((budget : ℕ) → shown (code_of program.now budget) run.new ≡ moved (code_of program.now budget) run.old rest level (call_row (code_of program.now budget) seer.now (instance_in (here_of run.old) goal.at))) }
     ensures stands { OnOk result (Stands run.new) }
 {
     match program.sees(seer, name, arity) {
@@ -109,11 +108,10 @@ fn call_pred(
     requires holds { Holds run.old }
     requires goal { goal.at < length run.old.heap.terms }
     requires rest { rest < length run.old.goals }
-    requires whole { IsWhole run.old goal.at }
     requires found { IsPredAt program.now place pred.now }
-    requires arity { HasPlacesFor (get_or run.old.heap.terms goal.at []) pred.now.name.arity }
+    requires arity { HasPlacesFor (instance_in (here_of run.old) goal.at) pred.now.name.arity }
     requires checks { HasGoodChecks program.now }
-    ensures moved { OnOk result ((budget : ℕ) → shown (code_of program.now budget) run.new ≡ moved (code_of program.now budget) run.old rest level (kind_row (code_of program.now budget) pred.now.name ((pred_of program.now.checks pred.now).kind) (qualified seer.now pred.now.goals (get_or run.old.heap.terms goal.at [])))) }
+    ensures moved { OnOk result ((budget : ℕ) → shown (code_of program.now budget) run.new ≡ moved (code_of program.now budget) run.old rest level (kind_row (code_of program.now budget) pred.now.name ((pred_of program.now.checks pred.now).kind) (qualified seer.now pred.now.goals (instance_in (here_of run.old) goal.at)))) }
     ensures stands { OnOk result (Stands run.new) }
 {
     let goal = qualified(run, seer, &pred.goals, goal)?;
@@ -134,11 +132,10 @@ fn call_kind(
     requires holds { Holds run.old }
     requires goal { goal.at < length run.old.heap.terms }
     requires rest { rest < length run.old.goals }
-    requires whole { IsWhole run.old goal.at }
     requires found { IsPredAt program.now place pred.now }
-    requires arity { HasPlacesFor (get_or run.old.heap.terms goal.at []) pred.now.name.arity }
+    requires arity { HasPlacesFor (instance_in (here_of run.old) goal.at) pred.now.name.arity }
     requires checks { HasGoodChecks program.now }
-    ensures moved { OnOk result ((budget : ℕ) → shown (code_of program.now budget) run.new ≡ moved (code_of program.now budget) run.old rest level (kind_row (code_of program.now budget) pred.now.name ((pred_of program.now.checks pred.now).kind) (get_or run.old.heap.terms goal.at []))) }
+    ensures moved { OnOk result ((budget : ℕ) → shown (code_of program.now budget) run.new ≡ moved (code_of program.now budget) run.old rest level (kind_row (code_of program.now budget) pred.now.name ((pred_of program.now.checks pred.now).kind) (instance_in (here_of run.old) goal.at))) }
     ensures stands { OnOk result (Stands run.new) }
 {
     match pred.kind {

@@ -11,10 +11,10 @@ ghost use Rattle.cp_run.specs.Shown.{shown, moved};
 ghost use Rattle.cp_run.specs.Stands.{HasItem, Holds, Stands};
 ghost use Rattle.cp_calls.specs.Rows.{exit_row};
 
-use crate::arguments::arguments_of;
 use crate::check_ball::throw_check;
 use crate::rules::drop_checks;
 use cp_code::Program;
+use cp_goals::arguments_of;
 use cp_heap::Ref;
 use cp_props::{Checks, broken_exit};
 use cp_run::{Point, Run};

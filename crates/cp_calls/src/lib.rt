@@ -1,7 +1,6 @@
 //! Calls of predicates, and their exits.
 #![tactic(auto)]
 
-mod arguments;
 mod calling;
 mod check_ball;
 mod exits;

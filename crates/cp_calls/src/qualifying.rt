@@ -1,14 +1,14 @@
 ghost use Rattle.std.specs.Prelude.{◌≡◌, ◌<◌, [], length, get_or, slice_get, Some, true, false, IfOk, OnOk};
 ghost use Rattle.std.specs.List.{list_any};
 ghost use Rattle.cp_term.specs.Preorder.{arguments, is_terms};
-ghost use Rattle.cp_heap.specs.State.{term, instance_at, AreRefs};
+ghost use Rattle.cp_heap.specs.State.{instance_at, AreRefs};
 ghost use Rattle.cp_lists.specs.Growing.{GainsTerms};
 ghost use Rattle.cp_lists.specs.Places.{instances};
 ghost use Rattle.cp_code.specs.Tree.{qualified, with_modules};
 ghost use Rattle.cp_run.specs.Shown.{here_of, instance_in};
 ghost use Rattle.cp_run.specs.Stands.{Holds};
 ghost use Rattle.cp_run.specs.Gaining.{IsGained};
-ghost use Rattle.cp_calls.specs.Goals.{IsWhole, IsCompound};
+ghost use Rattle.cp_calls.specs.Goals.{IsCompound};
 
 use cp_code::GoalMarks;
 use cp_heap::{Heap, Look, Ref, Refs};
@@ -27,13 +27,10 @@ pub(crate) fn qualified(
 ) -> Result<Ref, AllocError>
     requires holds { Holds run.old }
     requires goal { goal.at < length run.old.heap.terms }
-    requires whole { IsWhole run.old goal.at }
     ensures place { IfOk result (λ r. r.at < length run.new.heap.terms) }
-    ensures term { IfOk result (λ r. get_or run.new.heap.terms r.at [] ≡ qualified seer.now marks.now (get_or run.old.heap.terms goal.at [])) }
-    ensures whole { IfOk result (λ r. IsWhole run.new r.at) }
+    ensures instance { IfOk result (λ r. instance_in (here_of run.new) r.at ≡ qualified seer.now marks.now (instance_in (here_of run.old) goal.at)) }
     ensures gained { OnOk result (IsGained run.old run.new) }
 {
-    let _mark = run.heap.mark();
     let goal = qualified_on(run.alloc, &mut run.heap, seer, marks, goal)?;
     Ok(goal)
 }
@@ -46,10 +43,8 @@ fn qualified_on(
     goal: Ref,
 ) -> Result<Ref, AllocError>
     requires goal { goal.at < length heap.old.terms }
-    requires whole { instance_at heap.old goal.at ≡ term heap.old goal.at }
     ensures live { IfOk result (λ r. r.at < length heap.new.terms) }
-    ensures term { IfOk result (λ r. term heap.new r.at ≡ qualified seer.now marks.now (term heap.old goal.at)) }
-    ensures whole { IfOk result (λ r. instance_at heap.new r.at ≡ term heap.new r.at) }
+    ensures instance { IfOk result (λ r. instance_at heap.new r.at ≡ qualified seer.now marks.now (instance_at heap.old goal.at)) }
     ensures gains { GainsTerms heap.old heap.new }
 {
     let look = heap.look(goal);
@@ -57,37 +52,14 @@ fn qualified_on(
         return Ok(goal);
     }
     match look {
-        Look::Func(arity) => qualified_compound(alloc, heap, seer, marks, goal, arity),
+        Look::Func(arity) => compound_of(alloc, heap, seer, marks, goal, arity),
         Look::Var(_, _) => Ok(goal),
         Look::Int(_) => Ok(goal),
         Look::Atom => Ok(goal),
     }
 }
 
-/// The same for a compound.
-fn qualified_compound(
-    alloc: Global,
-    heap: &mut Heap,
-    seer: &Name,
-    marks: &GoalMarks,
-    goal: Ref,
-    arity: u16,
-) -> Result<Ref, AllocError>
-    requires goal { goal.at < length heap.old.terms }
-    requires compound { IsCompound arity (instance_at heap.old goal.at) }
-    requires one_term { is_terms 1 (instance_at heap.old goal.at) ≡ true }
-    ensures live { IfOk result (λ r. r.at < length heap.new.terms) }
-    ensures term { IfOk result (λ r. term heap.new r.at ≡ qualified seer.now marks.now (instance_at heap.old goal.at)) }
-    ensures whole { IfOk result (λ r. instance_at heap.new r.at ≡ term heap.new r.at) }
-    ensures gains { GainsTerms heap.old heap.new }
-{
-    let made = compound_of(alloc, heap, seer, marks, goal, arity)?;
-    let _mark = heap.mark();
-    let whole = heap.instance(made)?;
-    Ok(whole)
-}
-
-/// The compound over the arguments, which stay the terms that they are.
+/// The same for a compound, over the arguments, which stay the terms that they are.
 fn compound_of(
     alloc: Global,
     heap: &mut Heap,

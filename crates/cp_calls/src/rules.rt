@@ -11,13 +11,13 @@ ghost use Rattle.cp_props.specs.Arguments.{HaveArguments};
 ghost use Rattle.cp_props.specs.Checks.{check_shown};
 ghost use Rattle.cp_run.specs.Shown.{here_of, instance_in, rules_from, shown, moved};
 ghost use Rattle.cp_run.specs.Stands.{Holds, Stands};
-ghost use Rattle.cp_calls.specs.Goals.{IsWhole, HasPlacesFor, HasGoodChecks};
-ghost use Rattle.cp_calls.specs.Rows.{kind_row, rules_row, opened_row};
+ghost use Rattle.cp_calls.specs.Goals.{HasPlacesFor, HasGoodChecks};
+ghost use Rattle.cp_calls.specs.Rows.{kind_row, rules_row, opened_row, tested_row};
 ghost use Rattle.cp_calls.specs.Exits.{IsExitPut};
 
-use crate::arguments::arguments_of;
 use crate::check_ball::throw_check;
 use cp_code::Program;
+use cp_goals::arguments_of;
 use cp_heap::{Ref, Refs};
 use cp_props::{Checks, broken_call, checks_of, held};
 use cp_run::{Item, Point, Run};
@@ -36,11 +36,10 @@ pub(crate) fn call_rules(
 ) -> Result<(), AllocError>
     requires holds { Holds run.old }
     requires goal { goal.at < length run.old.heap.terms }
-    requires whole { IsWhole run.old goal.at }
-    requires arity { HasPlacesFor (get_or run.old.heap.terms goal.at []) pred.now.arity }
+    requires arity { HasPlacesFor (instance_in (here_of run.old) goal.at) pred.now.arity }
     requires rest { rest < length run.old.goals }
     requires checks { HasGoodChecks program.now }
-    ensures moved { OnOk result ((budget : ℕ) → shown (code_of program.now budget) run.new ≡ moved (code_of program.now budget) run.old rest level (kind_row (code_of program.now budget) pred.now (code.Rules (filter_map (check_on pred.now) program.now.checks) (rules_from (code_of program.now budget) place 0)) (get_or run.old.heap.terms goal.at []))) }
+    ensures moved { OnOk result ((budget : ℕ) → shown (code_of program.now budget) run.new ≡ moved (code_of program.now budget) run.old rest level (kind_row (code_of program.now budget) pred.now (code.Rules (filter_map (check_on pred.now) program.now.checks) (rules_from (code_of program.now budget) place 0)) (instance_in (here_of run.old) goal.at))) }
     ensures stands { OnOk result (Stands run.new) }
 {
     let checks = checks_of(run.alloc, program, pred)?;
@@ -63,12 +62,11 @@ fn test_call(
 ) -> Result<(), AllocError>
     requires holds { Holds run.old }
     requires goal { goal.at < length run.old.heap.terms }
-    requires whole { IsWhole run.old goal.at }
     requires args { AreRefs run.old.heap args.now }
-    requires arguments { instances run.old.heap args.now ≡ arguments (get_or run.old.heap.terms goal.at []) }
+    requires arguments { instances run.old.heap args.now ≡ arguments (instance_in (here_of run.old) goal.at) }
     requires named { HaveArguments (length args.now) (map check_shown checks.now) }
     requires rest { rest < length run.old.goals }
-    ensures moved { OnOk result ((budget : ℕ) → shown (code_of program.now budget) run.new ≡ moved (code_of program.now budget) run.old rest level (kind_row (code_of program.now budget) pred.now (code.Rules (map check_shown checks.now) (rules_from (code_of program.now budget) place 0)) (get_or run.old.heap.terms goal.at []))) }
+    ensures moved { OnOk result ((budget : ℕ) → shown (code_of program.now budget) run.new ≡ moved (code_of program.now budget) run.old rest level (kind_row (code_of program.now budget) pred.now (code.Rules (map check_shown checks.now) (rules_from (code_of program.now budget) place 0)) (instance_in (here_of run.old) goal.at))) }
     ensures stands { OnOk result (Stands run.new) }
 {
     match broken_call(run.alloc, &program.types, &run.heap, checks, args)? {
@@ -97,21 +95,47 @@ fn enter_rules(
 ) -> Result<(), AllocError>
     requires holds { Holds run.old }
     requires goal { goal.at < length run.old.heap.terms }
-    requires whole { IsWhole run.old goal.at }
     requires args { AreRefs run.old.heap args.now }
-    requires arguments { instances run.old.heap args.now ≡ arguments (get_or run.old.heap.terms goal.at []) }
+    requires arguments { instances run.old.heap args.now ≡ arguments (instance_in (here_of run.old) goal.at) }
     requires named { HaveArguments (length args.now) (map check_shown checks.now) }
     requires rest { rest < length run.old.goals }
-    ensures moved { OnOk result ((budget : ℕ) → shown (code_of program.now budget) run.new ≡ moved (code_of program.now budget) run.old rest level (rules_row (code_of program.now budget) pred.now (map check_shown checks.now) (rules_from (code_of program.now budget) place 0) (get_or run.old.heap.terms goal.at []))) }
+    ensures moved { OnOk result ((budget : ℕ) → shown (code_of program.now budget) run.new ≡ moved (code_of program.now budget) run.old rest level (rules_row (code_of program.now budget) pred.now (map check_shown checks.now) (rules_from (code_of program.now budget) place 0) (instance_in (here_of run.old) goal.at))) }
     ensures stands { OnOk result (Stands run.new) }
 {
     let held = held(run.alloc, &program.types, &run.heap, checks, args)?;
+    if held.is_empty() {
+        drop_checks(held);
+        open_rules(run, place, goal, rest, level)?;
+        return Ok(());
+    }
+    open_tested(run, place, pred, held, goal, rest, level)?;
+    Ok(())
+}
+
+/// The clauses of a predicate are tried, in front of its exit. What is tested there is the goal as it is now.
+fn open_tested(
+    run: &mut Run,
+    place: u32,
+    pred: &PredName,
+    held: Checks,
+    goal: Ref,
+    rest: u32,
+    level: u64,
+) -> Result<(), AllocError>
+    requires holds { Holds run.old }
+    requires goal { goal.at < length run.old.heap.terms }
+    requires named { HaveArguments (length (arguments (instance_in (here_of run.old) goal.at))) (map check_shown held) }
+    requires rest { rest < length run.old.goals }
+    ensures moved { OnOk result ((code : Code) → shown code run.new ≡ moved code run.old rest level (tested_row pred.now (map check_shown held) (rules_from code place 0) (instance_in (here_of run.old) goal.at))) }
+    ensures stands { OnOk result (Stands run.new) }
+{
+    let goal = run.instance(goal)?;
     let behind = put_exit(run, pred, held, goal, rest)?;
     open_rules(run, place, goal, behind, level)?;
     Ok(())
 }
 
-/// Puts the exit of a call in front of a list of goals, where something is tested there.
+/// Puts the exit of a call in front of a list of goals.
 fn put_exit(
     run: &mut Run,
     pred: &PredName,
@@ -126,10 +150,6 @@ fn put_exit(
     ensures holds { OnOk result (Holds run.new) }
     ensures put { IfOk result (λ n. IsExitPut run.old run.new pred.now (map check_shown held) (get_or run.old.heap.terms goal.at []) rest n) }
 {
-    if held.is_empty() {
-        drop_checks(held);
-        return Ok(rest);
-    }
     let pred = pred.clone()?;
     let behind = run.put(
         Item::Exit {

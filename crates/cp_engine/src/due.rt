@@ -2,11 +2,10 @@ ghost use Rattle.std.specs.Prelude.{◌≡◌, ℕ, ◌<◌, [], Some, true, len
 ghost use Rattle.cp_code.specs.Bodies.{Plain};
 ghost use Rattle.cp_code.specs.Requests.{functor_of as functor_in};
 ghost use Rattle.cp_goals.specs.Rows.{plain_row};
-ghost use Rattle.cp_calls.specs.Goals.{IsWhole};
 ghost use Rattle.cp_code.specs.Machine.{goal_move};
 ghost use Rattle.cp_code.specs.Programs.{code_of, or_fail};
 ghost use Rattle.cp_control.specs.Control.{body_read, HasParts};
-ghost use Rattle.cp_run.specs.Shown.{shown, moved};
+ghost use Rattle.cp_run.specs.Shown.{here_of, instance_in, shown, moved};
 ghost use Rattle.cp_run.specs.Stands.{Holds, Stands};
 ghost use Rattle.cp_engine.specs.Good.{IsGood};
 
@@ -89,7 +88,7 @@ fn run_plain(
     ensures moved { OnOk result ((budget own : ℕ) → shown (code_of program.now budget) run.new ≡ moved (code_of program.now budget) run.old rest level (goal_move (code_of program.now budget) (Plain seer.now (get_or run.old.heap.terms at.at [])) own)) }
     ensures stands { OnOk result (Stands run.new) }
 {
-    let goal = run.instance(at)?;
+    let goal = run.heap.end(at);
     let Some((name, arity)) = functor_of(&run.heap, goal)? else {
         run.go(Point::Fails);
         return Ok(());
@@ -98,7 +97,7 @@ fn run_plain(
     Ok(())
 }
 
-/// Runs the goal with this name and arity, which stands as its instance.
+/// Runs the goal that has, with the bindings, this name and arity.
 fn run_named(
     program: &Program,
     run: &mut Run,
@@ -113,9 +112,8 @@ fn run_named(
     requires holds { Holds run.old }
     requires rest { rest < length run.old.goals }
     requires goal { goal.at < length run.old.heap.terms }
-    requires functor { functor_in (get_or run.old.heap.terms goal.at []) ≡ Some (name.now, arity) }
-    requires whole { IsWhole run.old goal.at }
-    ensures moved { OnOk result ((budget : ℕ) → shown (code_of program.now budget) run.new ≡ moved (code_of program.now budget) run.old rest level (plain_row (code_of program.now budget) seer.now (get_or run.old.heap.terms goal.at []))) }
+    requires functor { functor_in (instance_in (here_of run.old) goal.at) ≡ Some (name.now, arity) }
+    ensures moved { OnOk result ((budget : ℕ) → shown (code_of program.now budget) run.new ≡ moved (code_of program.now budget) run.old rest level (plain_row (code_of program.now budget) seer.now (instance_in (here_of run.old) goal.at))) }
     ensures stands { OnOk result (Stands run.new) }
 {
     let ran = run_builtin(program, run, seer, name, arity, goal, rest, level)?;

@@ -378,7 +378,7 @@ fn comes_to(alloc: Global, parts: &[Part]) -> Result<[u8; 3], Fail> {
 
 /// Goals, and what they come to: an answer, a question, a write, a remote call, or the end by Done, by a ball or for want of
 /// units.
-const GOALS: [(&[Part], &[u8; 3]); 17] = [
+const GOALS: [(&[Part], &[u8; 3]); 18] = [
     (&[Func(b"p", 1), Var(0)], b"AAD"),
     (&[Func(b"p", 1), Int(3)], b"DDD"),
     (&[Func(b"first", 1), Var(0)], b"ADD"),
@@ -397,6 +397,23 @@ const GOALS: [(&[Part], &[u8; 3]); 17] = [
         b"AAD",
     ),
     (&[Func(b",", 2), Func(b"p", 1), Var(0), Atom(b"!")], b"ADD"),
+    (
+        &[
+            Func(b",", 2),
+            Func(b"=", 2),
+            Var(0),
+            Func(b"s", 1),
+            Var(1),
+            Func(b",", 2),
+            Func(b"p", 1),
+            Var(1),
+            Func(b"arg", 3),
+            Int(1),
+            Var(0),
+            Int(2),
+        ],
+        b"ADD",
+    ),
     (
         &[Func(b";", 2), Func(b"p", 1), Var(0), Func(b"p", 1), Var(0)],
         b"AAA",

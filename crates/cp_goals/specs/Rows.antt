@@ -4,7 +4,7 @@ use Rattle.cp_term.specs.declared.cell.Cell.{Cell}
 use Rattle.cp_term.specs.declared.pred_name.PredName.{PredName}
 use Rattle.cp_term.specs.Preorder.{arguments}
 use Rattle.cp_goal.specs.Builtins as builtins
-use Rattle.cp_heap.specs.State.{State, term, instance_at}
+use Rattle.cp_heap.specs.State.{State, instance_at}
 use Rattle.cp_code.specs.Code.{Code}
 use Rattle.cp_code.specs.Goals as goals
 use Rattle.cp_code.specs.Machine as machine
@@ -38,11 +38,10 @@ passes_row passed rest s next level = machine.passes_if passed rest s next level
 abbrev pub ends_row : builtins.End → List Cell → Row
 ends_row e ctx rest s next level = machine.ends_as e ctx rest level
 
--- a goal stands here as its instance, and it has this name and number of arguments
+-- a goal stands here that has, with the bindings, this name and number of arguments
 pub record IsGoalOf (h : State) (p : PredName) (at : ℕ) : Type 0 where
   pub place : at < length h.terms
-  pub functor : functor_of (term h at) ≡ Some (p.name, p.arity)
-  pub whole : instance_at h at ≡ term h at
+  pub functor : functor_of (instance_at h at) ≡ Some (p.name, p.arity)
 
 -- the terms of an answer are there
 abbrev pub HasAnswer : State → Result Asking Refusal → Type 0

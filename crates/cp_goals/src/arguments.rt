@@ -1,10 +1,11 @@
-ghost use Rattle.std.specs.Prelude.{◌≡◌, ◌+◌, ◌^◌, ◌<◌, ◌≤◌, length, take, drop, slice_get, IfOk, Some};
+ghost use Rattle.std.specs.Prelude.{◌≡◌, ◌<◌, length, slice_get, IfOk, Some};
 ghost use Rattle.cp_term.specs.Preorder.{arguments};
-ghost use Rattle.cp_heap.specs.State.{AreRefs, term, terms_at, instance_at};
+ghost use Rattle.cp_heap.specs.State.{AreRefs, instance_at};
+ghost use Rattle.cp_lists.specs.Places.{instances};
 ghost use Rattle.cp_code.specs.Tree.{first_of};
 ghost use Rattle.cp_request.specs.Posted.{posted_terms, HasPost};
 
-use cp_heap::{Heap, Ref, Refs, Word};
+use cp_heap::{Heap, Look, Ref, Refs};
 use cp_request::PostGoal;
 use std::alloc::{AllocError, Global};
 
@@ -46,36 +47,32 @@ pub(crate) fn post_arguments(heap: &Heap, goal: Ref) -> PostGoal
     }
 }
 
-/// The places of all arguments of a goal, where it stands without the bindings.
-pub(crate) fn argument_places(alloc: Global, heap: &Heap, goal: Ref) -> Result<Refs, AllocError>
-    requires { goal.at < length heap.now.terms }
-    ensures places { IfOk result (AreRefs heap.now) }
-    ensures arguments { IfOk result (λ refs. terms_at heap.now refs ≡ arguments (term heap.now goal.at)) }
+/// The places of the arguments of a term, with the bindings.
+pub fn arguments_of(alloc: Global, heap: &Heap, at: Ref) -> Result<Refs, AllocError>
+    requires { at.at < length heap.now.terms }
+    ensures live { IfOk result (λ places. AreRefs heap.now places) }
+    ensures instances { IfOk result (λ places. instances heap.now places ≡ arguments (instance_at heap.now at.at)) }
 {
-    let _mark = heap.mark();
-    match heap.word(goal) {
-        Word::Compound(arity, _, first) => {
-            let places = places_from(alloc, heap, first, arity)?;
-            Ok(places)
-        }
-        Word::Variable(_) => Ok(Refs::new(alloc)),
-        Word::Integer(_) => Ok(Refs::new(alloc)),
-        Word::Atom(_) => Ok(Refs::new(alloc)),
-    }
-}
-
-/// So many places side by side.
-fn places_from(alloc: Global, heap: &Heap, first: u32, count: u16) -> Result<Refs, AllocError>
-    requires within { first + count ≤ length heap.now.terms }
-    requires fits { length heap.now.terms < 2 ^ 32 }
-    ensures places { IfOk result (AreRefs heap.now) }
-    ensures terms { IfOk result (λ refs. terms_at heap.now refs ≡ take count (drop first heap.now.terms)) }
-{
+    let arity = arity_of(heap, at);
     let mut places = Refs::new(alloc);
-    'places: for index in 0..count {
-        places.push(Ref {
-            at: first + index as u32,
-        })?;
+    'arguments: for index in 0..arity {
+        match heap.argument(at, index) {
+            Some(argument) => places.push(argument)?,
+            None => unreachable!(),
+        }
     }
     Ok(places)
+}
+
+/// How many arguments a term has, with the bindings.
+fn arity_of(heap: &Heap, at: Ref) -> u16
+    requires { at.at < length heap.now.terms }
+    ensures { length (arguments (instance_at heap.now at.at)) ≡ result }
+{
+    match heap.look(at) {
+        Look::Func(arity) => arity,
+        Look::Var(_, _) => 0,
+        Look::Int(_) => 0,
+        Look::Atom => 0,
+    }
 }

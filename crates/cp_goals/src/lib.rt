@@ -11,6 +11,7 @@ mod questions;
 mod running;
 mod style;
 
+pub use arguments::arguments_of;
 pub use ask::ask_or_raise;
 pub use language_goal::LanguageGoal;
 pub use running::run_builtin;

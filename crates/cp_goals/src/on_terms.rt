@@ -3,7 +3,7 @@ ghost use Rattle.cp_term.specs.declared.pred_name.PredName.{PredName};
 ghost use Rattle.cp_goal.specs.Builtins.{End};
 ghost use Rattle.cp_goal.specs.Names.{builtin_named};
 ghost use Rattle.cp_builtin.specs.Ends.{IsOutcome, end_of_goal};
-ghost use Rattle.cp_heap.specs.State.{term, substitution};
+ghost use Rattle.cp_heap.specs.State.{substitution, instance_at};
 ghost use Rattle.cp_term.specs.Preorder.{arguments};
 ghost use Rattle.cp_code.specs.Code.{Code};
 ghost use Rattle.cp_code.specs.Requests.{full_name};
@@ -12,7 +12,7 @@ ghost use Rattle.cp_run.specs.Stands.{Holds, Stands};
 ghost use Rattle.cp_run.specs.Entering.{IsExtended};
 ghost use Rattle.cp_goals.specs.Rows.{ends_row, IsGoalOf};
 
-use crate::arguments::argument_places;
+use crate::arguments::arguments_of;
 use cp_builtin::{Outcome1, call_builtin};
 use cp_heap::Ref;
 use cp_run::{Point, Run};
@@ -31,7 +31,7 @@ pub(crate) fn on_terms(
     requires goal { IsGoalOf run.old.heap context.now goal.at }
     requires builtin { is_some (builtin_named context.now.name context.now.arity) ≡ true }
     requires rest { rest < length run.old.goals }
-    ensures moved { OnOk result ((code : Code) → shown code run.new ≡ moved code run.old rest level (ends_row (end_of_goal (builtin_named context.now.name context.now.arity) (arguments (term run.old.heap goal.at)) (substitution run.old.heap) run.old.heap.variables) (full_name context.now))) }
+    ensures moved { OnOk result ((code : Code) → shown code run.new ≡ moved code run.old rest level (ends_row (end_of_goal (builtin_named context.now.name context.now.arity) (arguments (instance_at run.old.heap goal.at)) (substitution run.old.heap) run.old.heap.variables) (full_name context.now))) }
     ensures stands { OnOk result (Stands run.new) }
 {
     let outcome = outcome_of(run, context, goal)?;
@@ -44,10 +44,11 @@ fn outcome_of(run: &mut Run, context: &PredName, goal: Ref) -> Result<Outcome1, 
     requires holds { Holds run.old }
     requires goal { IsGoalOf run.old.heap context.now goal.at }
     requires builtin { is_some (builtin_named context.now.name context.now.arity) ≡ true }
-    ensures outcome { IfOk result (λ outcome. IsOutcome run.new.heap context.now outcome (end_of_goal (builtin_named context.now.name context.now.arity) (arguments (term run.old.heap goal.at)) (substitution run.old.heap) run.old.heap.variables)) }
+    ensures outcome { IfOk result (λ outcome. IsOutcome run.new.heap context.now outcome (end_of_goal (builtin_named context.now.name context.now.arity) (arguments (instance_at run.old.heap goal.at)) (substitution run.old.heap) run.old.heap.variables)) }
     ensures extended { OnOk result (IsExtended run.old run.new) }
 {
-    let places = argument_places(run.alloc, &run.heap, goal)?;
+    let _mark = run.heap.mark();
+    let places = arguments_of(run.alloc, &run.heap, goal)?;
     let outcome = call_builtin(run.alloc, &mut run.heap, context, &places)?;
     Ok(outcome)
 }

@@ -2,7 +2,7 @@ ghost use Rattle.std.specs.Prelude.{◌≡◌, ℕ, ◌<◌, ◌≤◌, length, 
 ghost use Rattle.cp_term.specs.Numbering.{canon};
 ghost use Rattle.cp_ops.specs.Text.{text_of};
 ghost use Rattle.cp_ops.specs.Standard.{standard};
-ghost use Rattle.cp_heap.specs.State.{term, instance_at};
+ghost use Rattle.cp_heap.specs.State.{instance_at};
 ghost use Rattle.cp_code.specs.Code.{Code};
 ghost use Rattle.cp_code.specs.Goals as goals;
 ghost use Rattle.cp_code.specs.Programs.{code_of, ops_of};
@@ -41,7 +41,7 @@ pub(crate) fn write(
     requires goal { IsGoalOf run.old.heap context.now goal.at }
     requires arity { context.now.arity ≡ 1 }
     requires rest { rest < length run.old.goals }
-    ensures moved { OnOk result ((budget : ℕ) → shown (code_of program.now budget) run.new ≡ moved (code_of program.now budget) run.old rest level (builtin_row (code_of program.now budget) (goals.Write (style_shown style)) context.now (term run.old.heap goal.at))) }
+    ensures moved { OnOk result ((budget : ℕ) → shown (code_of program.now budget) run.new ≡ moved (code_of program.now budget) run.old rest level (builtin_row (code_of program.now budget) (goals.Write (style_shown style)) context.now (instance_at run.old.heap goal.at))) }
     ensures stands { OnOk result (Stands run.new) }
 {
     let at = first_argument(&run.heap, goal);

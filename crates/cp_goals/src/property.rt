@@ -1,5 +1,5 @@
 ghost use Rattle.std.specs.Prelude.{◌≡◌, ℕ, ◌<◌, length, OnOk};
-ghost use Rattle.cp_heap.specs.State.{term};
+ghost use Rattle.cp_heap.specs.State.{instance_at};
 ghost use Rattle.cp_code.specs.Code.{Code};
 ghost use Rattle.cp_code.specs.Goals as goals;
 ghost use Rattle.cp_code.specs.Programs.{code_of};
@@ -28,7 +28,7 @@ pub(crate) fn test_property(
     requires goal { IsGoalOf run.old.heap context.now goal.at }
     requires arity { context.now.arity ≡ 1 }
     requires rest { rest < length run.old.goals }
-    ensures moved { OnOk result ((budget : ℕ) → shown (code_of program.now budget) run.new ≡ moved (code_of program.now budget) run.old rest level (builtin_row (code_of program.now budget) (goals.Property context.now.name) context.now (term run.old.heap goal.at))) }
+    ensures moved { OnOk result ((budget : ℕ) → shown (code_of program.now budget) run.new ≡ moved (code_of program.now budget) run.old rest level (builtin_row (code_of program.now budget) (goals.Property context.now.name) context.now (instance_at run.old.heap goal.at))) }
     ensures stands { OnOk result (Stands run.new) }
 {
     let at = first_argument(&run.heap, goal);

@@ -1,5 +1,5 @@
 ghost use Rattle.std.specs.Prelude.{◌≡◌, ℕ, ◌<◌, length, OnOk};
-ghost use Rattle.cp_heap.specs.State.{term};
+ghost use Rattle.cp_heap.specs.State.{instance_at};
 ghost use Rattle.cp_code.specs.Code.{Code};
 ghost use Rattle.cp_code.specs.Goals as goals;
 ghost use Rattle.cp_code.specs.Programs.{code_of};
@@ -31,7 +31,7 @@ pub(crate) fn on_facts(
     requires goal { IsGoalOf run.old.heap context.now goal.at }
     requires arity { context.now.arity ≡ 1 }
     requires rest { rest < length run.old.goals }
-    ensures moved { OnOk result ((budget : ℕ) → shown (code_of program.now budget) run.new ≡ moved (code_of program.now budget) run.old rest level (builtin_row (code_of program.now budget) (goals.OnFacts (goal_shown fact)) context.now (term run.old.heap goal.at))) }
+    ensures moved { OnOk result ((budget : ℕ) → shown (code_of program.now budget) run.new ≡ moved (code_of program.now budget) run.old rest level (builtin_row (code_of program.now budget) (goals.OnFacts (goal_shown fact)) context.now (instance_at run.old.heap goal.at))) }
     ensures stands { OnOk result (Stands run.new) }
 {
     let at = first_argument(&run.heap, goal);
@@ -52,7 +52,7 @@ pub(crate) fn post(
     requires goal { IsGoalOf run.old.heap context.now goal.at }
     requires arity { context.now.arity ≡ 4 }
     requires rest { rest < length run.old.goals }
-    ensures moved { OnOk result ((code : Code) → shown code run.new ≡ moved code run.old rest level (builtin_row code goals.Post context.now (term run.old.heap goal.at))) }
+    ensures moved { OnOk result ((code : Code) → shown code run.new ≡ moved code run.old rest level (builtin_row code goals.Post context.now (instance_at run.old.heap goal.at))) }
     ensures stands { OnOk result (Stands run.new) }
 {
     let arguments = post_arguments(&run.heap, goal);
@@ -79,7 +79,7 @@ pub(crate) fn wait(
     requires goal { IsGoalOf run.old.heap context.now goal.at }
     requires arity { context.now.arity ≡ 1 }
     requires rest { rest < length run.old.goals }
-    ensures moved { OnOk result ((code : Code) → shown code run.new ≡ moved code run.old rest level (builtin_row code goals.Wait context.now (term run.old.heap goal.at))) }
+    ensures moved { OnOk result ((code : Code) → shown code run.new ≡ moved code run.old rest level (builtin_row code goals.Wait context.now (instance_at run.old.heap goal.at))) }
     ensures stands { OnOk result (Stands run.new) }
 {
     let at = first_argument(&run.heap, goal);

@@ -1,10 +1,9 @@
-ghost use Rattle.std.specs.Prelude.{◌≡◌, ℕ, ◌<◌, Some, true, false, length, get_or, [], is_some, IfOk, OnOk};
-ghost use Rattle.cp_term.specs.Substitution.{apply};
-ghost use Rattle.cp_heap.specs.State.{term};
+ghost use Rattle.std.specs.Prelude.{◌≡◌, ℕ, ◌<◌, Some, true, false, length, is_some, IfOk, OnOk};
+ghost use Rattle.cp_heap.specs.State.{instance_at};
 ghost use Rattle.cp_code.specs.Goals.{builtin_goal};
 ghost use Rattle.cp_code.specs.Programs.{code_of};
 ghost use Rattle.cp_code.specs.Requests.{functor_of};
-ghost use Rattle.cp_run.specs.Shown.{bound, here_of, shown, moved};
+ghost use Rattle.cp_run.specs.Shown.{here_of, instance_in, shown, moved};
 ghost use Rattle.cp_run.specs.Stands.{Holds, Stands};
 ghost use Rattle.cp_goals.specs.Kinds.{language_shown, HasArity};
 ghost use Rattle.cp_goals.specs.Rows.{plain_row, builtin_row, IsGoalOf};
@@ -20,8 +19,8 @@ use cp_run::Run;
 use cp_term::{Name, PredName};
 use std::alloc::AllocError;
 
-/// Runs a charged goal that stands as its instance, if it is a goal of the language that is no control, and answers whether
-/// it is. The module `seer` sees the goal.
+/// Runs a charged goal, if it is a goal of the language that is no control, and answers whether it is. Its name and its
+/// arguments are those that it has with the bindings, and the module `seer` sees it.
 pub fn run_builtin(
     program: &Program,
     run: &mut Run,
@@ -35,10 +34,9 @@ pub fn run_builtin(
     requires holds { Holds run.old }
     requires goal { goal.at < length run.old.heap.terms }
     requires rest { rest < length run.old.goals }
-    requires functor { functor_of (get_or run.old.heap.terms goal.at []) ≡ Some (name.now, arity) }
-    requires whole { apply (bound (here_of run.old)) (get_or run.old.heap.terms goal.at []) ≡ get_or run.old.heap.terms goal.at [] }
+    requires functor { functor_of (instance_in (here_of run.old) goal.at) ≡ Some (name.now, arity) }
     ensures answer { IfOk result (λ ran. ran ≡ is_some (builtin_goal name.now arity)) }
-    ensures moved { IfOk result (λ ran. ran ≡ true → (budget : ℕ) → shown (code_of program.now budget) run.new ≡ moved (code_of program.now budget) run.old rest level (plain_row (code_of program.now budget) seer.now (get_or run.old.heap.terms goal.at []))) }
+    ensures moved { IfOk result (λ ran. ran ≡ true → (budget : ℕ) → shown (code_of program.now budget) run.new ≡ moved (code_of program.now budget) run.old rest level (plain_row (code_of program.now budget) seer.now (instance_in (here_of run.old) goal.at))) }
     ensures stands { IfOk result (λ ran. ran ≡ true → Stands run.new) }
     ensures kept { IfOk result (λ ran. ran ≡ false → run.new ≡ run.old) }
 {
@@ -68,7 +66,7 @@ fn run_language_goal(
     requires goal { IsGoalOf run.old.heap context.now goal.at }
     requires arity { HasArity context.now.name context.now.arity language_goal }
     requires rest { rest < length run.old.goals }
-    ensures moved { OnOk result ((budget : ℕ) → shown (code_of program.now budget) run.new ≡ moved (code_of program.now budget) run.old rest level (builtin_row (code_of program.now budget) (language_shown context.now.name language_goal) context.now (term run.old.heap goal.at))) }
+    ensures moved { OnOk result ((budget : ℕ) → shown (code_of program.now budget) run.new ≡ moved (code_of program.now budget) run.old rest level (builtin_row (code_of program.now budget) (language_shown context.now.name language_goal) context.now (instance_at run.old.heap goal.at))) }
     ensures stands { OnOk result (Stands run.new) }
 {
     match language_goal {

@@ -1,10 +1,8 @@
 use Rattle.std.proofs.Common.{◌∙◌, ap}
-use Rattle.cp_term.specs.Preorder.{arguments}
 use Rattle.cp_code.specs.Bodies.{seen_from}
 use Rattle.cp_code.specs.Programs.{code_of}
 use Rattle.cp_code.specs.Requests as requests
 use Rattle.cp_code.specs.Requests.{full_name}
-use Rattle.cp_code.specs.Tree.{first_of}
 use Rattle.cp_request.specs.Asked.{goal_shown}
 use Rattle.cp_run.specs.Shown.{moved}
 use Rattle.cp_goals.specs.Rows.{asks_row}
@@ -20,4 +18,4 @@ returns-clause-moved c budget =
     let p = c.args.context.now in
     c.in_ok-ask_or_raise.ensures.moved code _ (c.fact_asking-answer.ensures budget)
     ∙ ap (λ t. moved code c.args.run.now c.args.rest c.args.level (asks_row (requests.fact_asking code (goal_shown c.args.fact) (seen_from p.module t) (full_name p)) (full_name p)))
-    (c.first_argument-at.ensures.argument ∙ ap (λ g. first_of (arguments g)) c.requires.goal.whole)
+    c.first_argument-at.ensures.argument

@@ -1,5 +1,4 @@
 use Rattle.std.proofs.Common.{◌∙◌, ap}
-use Rattle.cp_term.specs.Preorder.{arguments}
 use Rattle.cp_code.specs.Requests as requests
 use Rattle.cp_code.specs.Requests.{full_name}
 use Rattle.cp_run.specs.Shown.{moved}
@@ -19,4 +18,4 @@ returns-clause-moved c code =
     c.in_ok-ask_or_raise.ensures.moved code _ e.asks
     ∙ (gained-is c.args.run.now c.post_goal-answer.new.heap c.requires.holds (record { bindings = e.bindings; extends = e.extends; trail = e.trail; variables = e.variables })).moved code c.args.rest c.args.level (asks_row _ (full_name p)) c.requires.rest
     ∙ ap (λ ts. moved code c.args.run.now c.args.rest c.args.level (asks_row (requests.post_goal p.module ts (full_name p)) (full_name p)))
-    (c.post_arguments-arguments.ensures.arguments ∙ ap arguments c.requires.goal.whole)
+    c.post_arguments-arguments.ensures.arguments

@@ -1,7 +1,7 @@
 use Rattle.std.proofs.Common.{◌∙◌, length, ap}
 use Rattle.cp_term.specs.Preorder.{arguments}
 use Rattle.cp_builtin.proofs.ListLaws.{length-arguments}
-use Rattle.cp_calls.proofs.arguments.arity_of.Goals as goal
+use Rattle.cp_goals.proofs.arguments.arity_of.Goals as goal
 
 pub returns-in-Func : goal.returns-in-Func
 returns-in-Func c =

@@ -2,7 +2,7 @@ use Rattle.std.proofs.Common.{◌≡◌, take}
 use Rattle.cp_term.specs.Preorder.{arguments}
 use Rattle.cp_heap.specs.State.{instance_at, AreRefs}
 use Rattle.cp_lists.specs.Places.{instances}
-use Rattle.cp_calls.proofs.arguments.arguments_of.Given as goal
+use Rattle.cp_goals.proofs.arguments.arguments_of.Given as goal
 
 abbrev pub invariant-arguments : goal.invariant-arguments
 invariant-arguments l = record {

@@ -4,7 +4,7 @@ use Rattle.cp_heap.specs.State.{instance_at, AreRefs}
 use Rattle.cp_lists.specs.Places.{instances}
 use Rattle.cp_lists.proofs.lemmas.Places.{live-push, instances-push}
 use Rattle.cp_builtin.proofs.ListLaws.{take_got}
-use Rattle.cp_calls.proofs.arguments.arguments_of.Goals as goal
+use Rattle.cp_goals.proofs.arguments.arguments_of.Goals as goal
 
 pub arguments-preserved : goal.arguments-preserved
 arguments-preserved c =
