@@ -4,7 +4,7 @@ ghost use Rattle.cp_call.specs.History.{Legal};
 ghost use Rattle.cp_call.specs.Store.{state_of, is_still_parked, limit_of};
 ghost use Rattle.cp_call.specs.Sound.{Object, IsKept, AreKept};
 ghost use Rattle.cp_call.specs.Asker.{entry_added, IsFullBy, IsStill};
-ghost use Rattle.cp_hall.specs.Hall.{objects_of, histories_of, ended_histories, history_at, with_more, state_now, IsAnswer, IsAnswered, IsConsistent, CanEnd, hall_object};
+ghost use Rattle.cp_hall.specs.Hall.{objects_of, histories_of, ended_histories, history_at, with_more, state_now, AreLegal, IsAnswer, IsAnswered, IsConsistent, CanEnd, hall_object};
 
 use cp_call::{
     Asked, Asker, Call, ObjectKind, ObjectName, PredEnd, PredEnds, Refused, Reply, Terms,
@@ -102,6 +102,13 @@ impl PlainHall {
     {
         let row = &mut self.rows[object as usize];
         ask_one(&mut row.pred, caller, call)
+    }
+
+    /// States what holds of every hall, for a caller who needs it: the history of each object is legal. It does nothing.
+    pub fn state_invariant(&self)
+        ensures { AreLegal self.now }
+    {
+        let _rows = &self.rows;
     }
 
     /// The objects at the end, by number.

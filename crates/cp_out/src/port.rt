@@ -79,6 +79,13 @@ impl<S: Sink> Port<S> {
         self.failed
     }
 
+    /// States what holds of every port, for a caller who needs it: the entries tell what was put on the sink. It does nothing.
+    pub fn state_invariant(&self)
+        ensures { Records S.held S.faults self.now.first self.now.entries self.now.sink }
+    {
+        let _entries = &self.entries;
+    }
+
     /// The sink and the entries. It takes no memory.
     pub fn into_parts(self) -> (S, OutEntries)
         ensures sink { result.0 ≡ self.sink }

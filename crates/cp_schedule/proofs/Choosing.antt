@@ -11,7 +11,7 @@ append_none : {X : Type 0} (xs ys : List X) → xs ++ ys ≡ [] → (xs ≡ []) 
 append_none [] ys h = (refl, h)
 append_none (x ∷ xs) ys h = let w : ⊥ = cc in absurd w
 
-split_get : {X : Type 0} (xs ys : List X) (k : ℕ) (x : X) → slice_get (xs ++ ys) k ≡ Some x → (slice_get xs k ≡ Some x) ⊎ ((m : ℕ) × (slice_get ys m ≡ Some x))
+pub split_get : {X : Type 0} (xs ys : List X) (k : ℕ) (x : X) → slice_get (xs ++ ys) k ≡ Some x → (slice_get xs k ≡ Some x) ⊎ ((m : ℕ) × (slice_get ys m ≡ Some x))
 split_get [] ys k x h = inr (k, h)
 split_get (y ∷ xs) ys zero x h = inl h
 split_get (y ∷ xs) ys (suc k) x h = split_get xs ys k x h

@@ -9,10 +9,10 @@ use Rattle.cp_call.specs.declared.outcome.OutEntry.{OutEntry}
 use Rattle.cp_call.specs.declared.outcome.PredEnd.{PredEnd}
 use Rattle.cp_call.specs.declared.outcome.Outcome.{Outcome}
 use Rattle.cp_call.specs.Life.{Rule}
-use Rattle.cp_call.specs.Sound.{Setup, Going, Sound, AreTied, AllRest, EndsParkedOn, has_callers, is_engine, is_parked_on, stays_failed}
+use Rattle.cp_call.specs.Sound.{Setup, Going, Sound, AreTied, AllRest, EndsParkedOn, has_callers, is_engine, is_parked_on}
 use Rattle.cp_shell.specs.Parked.{parked_object}
 use Rattle.cp_shell.specs.Shell.{ShellView}
-use Rattle.cp_hall.specs.Hall.{HallObject, objects_of, AreLegal}
+use Rattle.cp_hall.specs.Hall.{HallObject, objects_of}
 use Rattle.cp_out.specs.Port.{Records}
 use Rattle.cp_schedule.specs.Record.{AreNew, IsLater, engine_now, pred_now, record_now, workers_setup}
 use Rattle.cp_schedule.specs.Awake.{is_parked_in, is_parked_at, AllParked}
@@ -86,13 +86,11 @@ pub record HasCome {M Code : Type 0} (code : M → Code) (asks : Code → Rule) 
   pub fresh : IsFresh code count shells hall
   pub empty : port ≡ []
   pub later : IsLater code asks shells now hall hall_now port port_now
-  pub legal : AreLegal hall_now
-  pub failed : stays_failed port_now ≡ true
 
 come_going : {M Code : Type 0} (code : M → Code) (asks : Code → Rule) (count : Code → ℕ) (shells now : List (ShellView M)) (hall hall_now : List HallObject) (port port_now : List OutEntry) (k : Code) (steps : ℕ)
     → HasCome code asks count shells now hall hall_now port port_now → AreNew code k shells → Going (workers_setup (asks k) (objects_of hall)) (record_now steps now hall_now port_now)
 come_going code asks count shells now hall hall_now port port_now k steps come new =
-    going_later code asks shells now hall hall_now port port_now come.later k steps (starts_driven code asks k shells hall port new come.fresh.unasked come.empty) come.legal come.failed
+    going_later code asks shells now hall hall_now port port_now come.later k steps (starts_driven code asks k shells hall port new come.fresh.unasked come.empty)
     (starts_going code (asks k) k steps shells hall port new come.fresh.unasked come.empty)
 
 come_numbers : {M Code : Type 0} (code : M → Code) (asks : Code → Rule) (count : Code → ℕ) (shells now : List (ShellView M)) (hall hall_now : List HallObject) (port port_now : List OutEntry)

@@ -25,6 +25,7 @@ use Rattle.cp_call.specs.Sound.{Object, Setup, own_entries, own_writes, entry_un
 use Rattle.cp_shell.specs.Parked.{is_remote}
 use Rattle.cp_hall.specs.Hall.{HallObject, objects_of, history_of, history_at, with_more, AreLegal}
 use Rattle.cp_schedule.specs.Record.{pred_now}
+use Rattle.cp_schedule.specs.Turns.{pick_at}
 use Rattle.cp_schedule.proofs.Lists.{append_nil, cancel, get_map, get_set, set_same, set_set, get_there, only_mine}
 use Rattle.cp_schedule.proofs.Histories.{same_hall, more_hall, preds_more, follows_there}
 
@@ -253,10 +254,6 @@ call_answered s before after n (item.Answered r) h a b = let w : ⊥ = cc in abs
 -- an engine with these events more
 abbrev pub with_events : EngineEnd → List Item → EngineEnd
 with_events e more = record e { items = e.items ++ more }
-
--- a pick of the worker at a place
-abbrev pub pick_at : ℕ → Item → Pick
-pick_at k i = record { place = k; event = i }
 
 -- the remote calls of a turn
 pub calls_go_on : (s : Setup) (before : Outcome) (k : ℕ) (e : EngineEnd) (calls : List Item)

@@ -1,7 +1,6 @@
 -- A hall of which the objects have more entries, as the objects of a record.
 use Rattle.std.proofs.Common.{◌≡◌, ◌≢◌, ℕ, zero, suc, ◌<◌, List, [], ◌∷◌, ◌++◌, length, refl, sym, ◌∙◌, ap, subst, Some, append_assoc, arith}
 use Rattle.std.specs.Prelude.{map, slice_get, slice_set}
-use Rattle.cp_list.specs.Lists.{IsPrefix}
 use Rattle.cp_term.specs.declared.cell.Cell.{Cell}
 use Rattle.cp_call.specs.declared.call.ObjectKind.{ObjectKind}
 use Rattle.cp_call.specs.declared.call.Entry.{Entry}
@@ -71,14 +70,10 @@ history_now [] (suc q) = refl
 history_now (o ∷ hall) zero = refl
 history_now (o ∷ hall) (suc q) = history_now hall q
 
--- what may follow a legal history, and that it was legal
+-- what may follow a legal history
 legal_last : (k : ObjectKind) (opening : List (List Cell)) (before xs : List Entry) (e : Entry) → LegalAfter k opening before (xs ++ e ∷ []) → MayFollow k opening (before ++ xs) e
 legal_last k opening before [] e l = subst (λ h. MayFollow k opening h e) (sym (append_nil before)) l.0
 legal_last k opening before (x ∷ xs) e l = subst (λ h. MayFollow k opening h e) (append_assoc before (x ∷ []) xs) (legal_last k opening (before ++ x ∷ []) xs e l.1)
-
-legal_first : (k : ObjectKind) (opening : List (List Cell)) (before xs ys : List Entry) → LegalAfter k opening before (xs ++ ys) → LegalAfter k opening before xs
-legal_first k opening before [] ys l = tt
-legal_first k opening before (x ∷ xs) ys l = (l.0, legal_first k opening (before ++ x ∷ []) xs ys l.1)
 
 -- an entry that was added to a legal hall
 pub follows_there : (hall : List HallObject) (p : ℕ) (o : HallObject) (e : Entry) → slice_get hall p ≡ Some o → AreLegal (with_more (e ∷ []) hall p) → MayFollow o.object.kind o.object.opening o.history e
@@ -86,18 +81,6 @@ follows_there [] p o e h l = let w : ⊥ = cc in absurd w
 follows_there (x ∷ hall) zero o e h l =
     let z : x ≡ o = cc in subst (λ (y : HallObject). MayFollow y.object.kind y.object.opening y.history e) z (legal_last x.object.kind x.object.opening [] x.history e l.0)
 follows_there (x ∷ hall) (suc p) o e h l = follows_there hall p o e h l.1
-
--- a hall that came to be legal was
-pub legal_before : (hall now : List HallObject) → objects_of now ≡ objects_of hall → ((q : ℕ) → IsPrefix (history_at hall q) (history_at now q)) → AreLegal now → AreLegal hall
-legal_before [] now e grows l = tt
-legal_before (x ∷ hall) [] e grows l = let w : ⊥ = cc in absurd w
-legal_before (x ∷ hall) (o ∷ now) e grows l =
-    let head : o.object ≡ x.object = cc in
-    let rest : objects_of now ≡ objects_of hall = cc in (
-      legal_first x.object.kind x.object.opening [] x.history (grows 0).0
-          (subst (λ (y : Object). Legal y.kind y.opening (x.history ++ (grows 0).0)) head (subst (λ h. Legal o.object.kind o.object.opening h) (grows 0).1 l.0)),
-      legal_before hall now rest (λ q. grows (suc q)) l.1,
-    )
 
 -- the objects as a run ends with them are those of the record
 pub ended_now : (hall : List HallObject) (ends : List PredEnd) → AreKept (objects_of hall) ends → ended_histories ends ≡ histories_of hall → ends ≡ map pred_now hall

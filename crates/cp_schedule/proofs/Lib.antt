@@ -6,3 +6,6 @@ pub mod Parking
 pub mod Starting
 pub mod Ending
 pub mod Choosing
+pub mod Standing
+pub mod Picking
+pub mod Seeding

@@ -1,19 +1,16 @@
 -- A turn of one shell comes later, and later moments of later moments are later.
 use Rattle.std.proofs.Common.{◌≡◌, ◌≢◌, ◌⊎◌, inl, inr, ℕ, ◌+◌, List, [], ◌∷◌, ◌++◌, length, refl, sym, ◌∙◌, ap, subst, Bool, true, Some, arith}
 use Rattle.std.specs.Prelude.{map, slice_get, slice_set, Result, Ok, Err, MatchResult}
-use Rattle.std.specs.List.{list_all}
-use Rattle.std.proofs.lemmas.Bool.{and_parts, and_from}
 use Rattle.std.proofs.lemmas.Bool.Decides.{eqb_tells}
 use Rattle.cp_list.specs.Lists.{IsPrefix}
 use Rattle.cp_call.specs.declared.call.Entry.{Entry}
 use Rattle.cp_call.specs.declared.item.Item.{Item}
-use Rattle.cp_call.specs.declared.item.PutReply.TheVariants as put
 use Rattle.cp_call.specs.declared.outcome.OutEntry.{OutEntry}
 use Rattle.cp_call.specs.Added.{HasAdded}
 use Rattle.cp_call.specs.Life as life
 use Rattle.cp_call.specs.Progress.{GoesOnBy, Pick}
 use Rattle.cp_call.specs.Running.{IsRunning}
-use Rattle.cp_call.specs.Sound.{Object, Going, own_entries, own_writes, asked_entries, wrote_entries, has_failed, stays_failed}
+use Rattle.cp_call.specs.Sound.{Object, Going, own_entries, own_writes, asked_entries, wrote_entries, stays_failed}
 use Rattle.cp_call.proofs.Adding.{IsPrefix_refl, IsPrefix_trans}
 use Rattle.cp_call.proofs.Going.{Going-events}
 use Rattle.cp_call.proofs.Running.{IsRunning-others}
@@ -23,25 +20,9 @@ use Rattle.cp_shell.proofs.Resting.{runs_on}
 use Rattle.cp_hall.specs.Hall.{HallObject, objects_of, history_at, AreLegal}
 use Rattle.cp_schedule.specs.Record.{engine_now, pred_now, record_now, workers_setup, AreDriven, IsReady, IsLater}
 use Rattle.cp_schedule.proofs.Lists.{append_nil, cancel, get_map, map_set, get_set, get_set_other, set_same, length_set, only_mine}
-use Rattle.cp_schedule.proofs.Histories.{same_hall, legal_before}
-use Rattle.cp_schedule.proofs.GoingOn.{grows_by, pick_at, with_events, turn_goes_on, goes_on-on}
-
-all_failed_before : (xs ys : List OutEntry) → list_all has_failed (xs ++ ys) ≡ true → list_all has_failed xs ≡ true
-all_failed_before [] ys h = refl
-all_failed_before (x ∷ xs) ys h = let parts = and_parts (has_failed x) (list_all has_failed (xs ++ ys)) h in and_from (has_failed x) (list_all has_failed xs) parts.0 (all_failed_before xs ys parts.1)
-
--- a port that came to stay failed did so
-pub failed_before : (xs ys : List OutEntry) → stays_failed (xs ++ ys) ≡ true → stays_failed xs ≡ true
-failed_before [] ys h = refl
-failed_before (x ∷ xs) ys h = elim x.reply as (λ r.
-    elim r [ put.Wrote ↦ stays_failed (xs ++ ys) | put.Failed ↦ list_all has_failed (xs ++ ys) ] ≡ true
-    → elim r [ put.Wrote ↦ stays_failed xs | put.Failed ↦ list_all has_failed xs ] ≡ true) [
-      | put.Wrote ↦ λ g. failed_before xs ys g
-      | put.Failed ↦ λ g. all_failed_before xs ys g
-    ] h
-
-pub failed_at : (port now : List OutEntry) → IsPrefix port now → stays_failed now ≡ true → stays_failed port ≡ true
-failed_at port now grows h = failed_before port grows.0 (subst (λ x. stays_failed x ≡ true) grows.1 h)
+use Rattle.cp_schedule.proofs.Histories.{same_hall}
+use Rattle.cp_schedule.specs.Turns.{pick_at}
+use Rattle.cp_schedule.proofs.GoingOn.{grows_by, with_events, turn_goes_on, goes_on-on}
 
 pub later_here : {M Code : Type 0} (code : M → Code) (asks : Code → life.Rule) (shells : List (ShellView M)) (hall : List HallObject) (port : List OutEntry) → IsLater code asks shells shells hall hall port port
 later_here code asks shells hall port = record {
@@ -50,7 +31,7 @@ later_here code asks shells hall port = record {
   grows = λ q. IsPrefix_refl (history_at hall q);
   port_grows = IsPrefix_refl port;
   driven = λ k d. d;
-  goes_on = λ k steps d l f. ([], refl);
+  goes_on = λ k steps d. ([], refl);
 }
 
 pub later_on : {M Code : Type 0} (code : M → Code) (asks : Code → life.Rule) (s1 s2 s3 : List (ShellView M)) (h1 h2 h3 : List HallObject) (p1 p2 p3 : List OutEntry)
@@ -61,9 +42,9 @@ later_on {M} {Code} code asks s1 s2 s3 h1 h2 h3 p1 p2 p3 a b = record {
   grows = λ q. IsPrefix_trans (history_at h1 q) (history_at h2 q) (history_at h3 q) (a.grows q) (b.grows q);
   port_grows = IsPrefix_trans p1 p2 p3 a.port_grows b.port_grows;
   driven = λ k d. subst (λ os. AreDriven code asks k os s3 h3 p3) a.objects (b.driven k (between k d));
-  goes_on = λ k steps d l f.
-      let first = a.goes_on k steps d (legal_before h2 h3 b.objects b.grows l) (failed_at p2 p3 b.port_grows f) in
-      let second = b.goes_on k steps (between k d) l f in (
+  goes_on = λ k steps d.
+      let first = a.goes_on k steps d in
+      let second = b.goes_on k steps (between k d) in (
         first.0 ++ second.0,
         goes_on-on (workers_setup (asks k) (objects_of h1)) (record_now steps s1 h1 p1) (record_now steps s2 h2 p2) (record_now steps s3 h3 p3) first.0 second.0 first.1
             (subst (λ os. GoesOnBy (workers_setup (asks k) os) (record_now steps s2 h2 p2) second.0 (record_now steps s3 h3 p3)) a.objects second.1),
@@ -121,15 +102,21 @@ driven_on {M} {Code} code asks k os shells i v w hall now port port_now there nu
         (subst (λ c. life.IsWorkersLife (asks c) v.items → life.IsWorkersLife (asks c) w.items) (d.codes i v there) lives) t.is
         (subst (λ x. HasAdded x (history_at hall) (history_at now) (own_writes (i + 1) port) (own_writes (i + 1) port_now) (i + 1) t.added) (sym objects) t.has)
 
+-- where nothing was done no object has changed
+pub hall_kept : (i : ℕ) (hall now : List HallObject) (port port_now : List OutEntry) (items items_now : List Item) → items_now ≡ items → TurnFacts (i + 1) hall now port port_now items items_now → now ≡ hall
+hall_kept i hall now port port_now items items_now same t =
+    let none : [] ≡ t.added = cancel items [] t.added (append_nil items ∙ (sym same ∙ t.is)) in
+    let asked : (q : ℕ) → asked_entries (i + 1) q t.added ≡ [] = λ q. ap (asked_entries (i + 1) q) (sym none) in
+    same_hall hall now t.objects (λ q. only_mine (λ (e : Entry). e.caller) (i + 1) (history_at hall q) (history_at now q) [] (t.has.grows q) (λ m d. t.others m q d)
+    (t.has.asked q ∙ ap (λ r. own_entries (i + 1) (history_at hall q) ++ r) (asked q)) ∙ append_nil (history_at hall q))
+
 -- nothing was done
 idle_on : {M : Type 0} (steps : ℕ) (shells : List (ShellView M)) (i : ℕ) (v w : ShellView M) (hall now : List HallObject) (port port_now : List OutEntry)
     → slice_get shells i ≡ Some v → w.number ≡ v.number → w.items ≡ v.items → TurnFacts (i + 1) hall now port port_now v.items w.items
     → record_now steps shells hall port ≡ record_now steps (slice_set shells i w) now port_now
 idle_on {M} steps shells i v w hall now port port_now there number same t =
     let none : [] ≡ t.added = cancel v.items [] t.added (append_nil v.items ∙ (sym same ∙ t.is)) in
-    let asked : (q : ℕ) → asked_entries (i + 1) q t.added ≡ [] = λ q. ap (asked_entries (i + 1) q) (sym none) in
-    let kept : now ≡ hall = same_hall hall now t.objects (λ q. only_mine (λ (e : Entry). e.caller) (i + 1) (history_at hall q) (history_at now q) [] (t.has.grows q) (λ m d. t.others m q d)
-    (t.has.asked q ∙ ap (λ r. own_entries (i + 1) (history_at hall q) ++ r) (asked q)) ∙ append_nil (history_at hall q)) in
+    let kept : now ≡ hall = hall_kept i hall now port port_now v.items w.items same t in
     let port_kept : port_now ≡ port = only_mine (λ (x : OutEntry). x.engine) (i + 1) port port_now [] t.port_grows t.writers
     (t.has.writes ∙ ap (λ r. own_writes (i + 1) port ++ r) (ap (wrote_entries (i + 1)) (sym none))) ∙ append_nil port in
     let engine : engine_now w ≡ engine_now v = ap (λ n. record { number = n; items = w.items; stand = (engine_now v).stand }) number ∙ ap (λ xs. record { number = v.number; items = xs; stand = (engine_now v).stand }) same in
@@ -139,7 +126,7 @@ idle_on {M} steps shells i v w hall now port port_now there number same t =
     ∙ (ap (λ h. record { steps = steps; engines = map engine_now (slice_set shells i w); preds = map pred_now h; port = port }) (sym kept)
     ∙ ap (λ p. record { steps = steps; engines = map engine_now (slice_set shells i w); preds = map pred_now now; port = p }) (sym port_kept))
 
-made_on : {M : Type 0} (rule : life.Rule) (steps : ℕ) (shells : List (ShellView M)) (i : ℕ) (v w : ShellView M) (hall now : List HallObject) (port port_now : List OutEntry)
+pub made_on : {M : Type 0} (rule : life.Rule) (steps : ℕ) (shells : List (ShellView M)) (i : ℕ) (v w : ShellView M) (hall now : List HallObject) (port port_now : List OutEntry)
     → slice_get shells i ≡ Some v → w.number ≡ v.number → life.IsWorkersLife rule w.items → (made : HasMade v.items w.items) → TurnFacts (i + 1) hall now port port_now v.items w.items → AreLegal now → stays_failed port_now ≡ true
     → GoesOnBy (workers_setup rule (objects_of hall)) (record_now steps shells hall port) (map (pick_at i) (made.event ∷ made.calls)) (record_now steps (slice_set shells i w) now port_now)
 made_on {M} rule steps shells i v w hall now port port_now there number lives made t legal failed =
@@ -163,15 +150,15 @@ turned_on rule steps shells i v w hall now port port_now there number lives (inr
 -- a turn of the shell at a place comes later
 pub turn_later : {M Code : Type 0} (code : M → Code) (asks : Code → life.Rule) (shells : List (ShellView M)) (i : ℕ) (v w : ShellView M) (hall now : List HallObject) (port port_now : List OutEntry)
     → slice_get shells i ≡ Some v → v.number ≡ i + 1 → w.number ≡ v.number → code w.machine ≡ code v.machine → (life.IsWorkersLife (asks (code v.machine)) v.items → life.IsWorkersLife (asks (code v.machine)) w.items)
-    → TurnFacts v.number hall now port port_now v.items w.items
+    → TurnFacts v.number hall now port port_now v.items w.items → AreLegal now → stays_failed port_now ≡ true
     → IsLater code asks shells (slice_set shells i w) hall now port port_now
-turn_later {M} {Code} code asks shells i v w hall now port port_now there place number same lives facts = record {
+turn_later {M} {Code} code asks shells i v w hall now port port_now there place number same lives facts legal failed = record {
   count = length_set shells i w;
   objects = t.objects;
   grows = t.has.grows;
   port_grows = t.port_grows;
   driven = λ k d. driven_on code asks k (objects_of hall) shells i v w hall now port port_now there number same lives refl t d;
-  goes_on = λ k steps d legal failed. turned_on (asks k) steps shells i v w hall now port port_now there number
+  goes_on = λ k steps d. turned_on (asks k) steps shells i v w hall now port port_now there number
       (subst (λ c. life.IsWorkersLife (asks c) v.items → life.IsWorkersLife (asks c) w.items) (d.codes i v there) lives (d.running i v there).life) t.once t legal failed;
 }
   where
@@ -196,8 +183,8 @@ ready_on code asks count s1 s2 h1 h2 p1 p2 r later = record {
 
 -- a record that is going stays so later
 pub going_later : {M Code : Type 0} (code : M → Code) (asks : Code → life.Rule) (s1 s2 : List (ShellView M)) (h1 h2 : List HallObject) (p1 p2 : List OutEntry) → IsLater code asks s1 s2 h1 h2 p1 p2
-    → (k : Code) (steps : ℕ) → AreDriven code asks k (objects_of h1) s1 h1 p1 → AreLegal h2 → stays_failed p2 ≡ true
+    → (k : Code) (steps : ℕ) → AreDriven code asks k (objects_of h1) s1 h1 p1
     → Going (workers_setup (asks k) (objects_of h1)) (record_now steps s1 h1 p1) → Going (workers_setup (asks k) (objects_of h1)) (record_now steps s2 h2 p2)
-going_later code asks s1 s2 h1 h2 p1 p2 later k steps d legal failed going =
-    let on = later.goes_on k steps d legal failed in
+going_later code asks s1 s2 h1 h2 p1 p2 later k steps d going =
+    let on = later.goes_on k steps d in
     Going-events (workers_setup (asks k) (objects_of h1)) (record_now steps s1 h1 p1) on.0 (record_now steps s2 h2 p2) going on.1

@@ -1,3 +1,4 @@
 pub mod Record
 pub mod Awake
 pub mod Ended
+pub mod Turns

@@ -1,6 +1,6 @@
 -- The record of a run at some moment: its engines by what their shells have kept, its objects in the states that their
 -- histories leave, and the entries of its port.
-use Rattle.std.specs.Prelude.{ℕ, ◌+◌, ◌≡◌, true, List, [], map, None, Some, slice_get, length}
+use Rattle.std.specs.Prelude.{ℕ, ◌+◌, ◌≡◌, List, [], map, None, Some, slice_get, length}
 use Rattle.cp_call.specs.declared.outcome.Stand.TheVariants as stand
 use Rattle.cp_call.specs.declared.outcome.EngineEnd.{EngineEnd}
 use Rattle.cp_call.specs.declared.outcome.OutEntry.{OutEntry}
@@ -9,10 +9,10 @@ use Rattle.cp_call.specs.declared.outcome.Outcome.{Outcome}
 use Rattle.cp_call.specs.Life.{Rule}
 use Rattle.cp_call.specs.Running.{IsRunning}
 use Rattle.cp_call.specs.Progress.{GoesOnBy, Pick}
-use Rattle.cp_call.specs.Sound.{Object, Setup, own_writes, stays_failed}
+use Rattle.cp_call.specs.Sound.{Object, Setup, own_writes}
 use Rattle.cp_list.specs.Lists.{IsPrefix}
 use Rattle.cp_shell.specs.Shell.{ShellView}
-use Rattle.cp_hall.specs.Hall.{HallObject, objects_of, history_at, state_now, AreLegal}
+use Rattle.cp_hall.specs.Hall.{HallObject, objects_of, history_at, state_now}
 
 -- an engine while it works, before it is said where it stands
 abbrev pub engine_now : {M : Type 0} → ShellView M → EngineEnd
@@ -51,16 +51,22 @@ pub record IsReady {M Code : Type 0} (code : M → Code) (asks : Code → Rule) 
   pub counts : count code_is ≡ length (objects_of hall)
 
 -- These shells, hall and port come after those, over the same objects: each has grown at its end alone, the shells drive
--- running workers if they did, and the record has gone on by events of its workers. That the histories are legal and that
--- once a write has failed all have is told by hall and port at the end.
+-- running workers if they did, and the record has gone on by events of its workers.
 pub record IsLater {M Code : Type 0} (code : M → Code) (asks : Code → Rule) (shells shells_now : List (ShellView M)) (hall hall_now : List HallObject) (port port_now : List OutEntry) : Type 0 where
   pub count : length shells_now ≡ length shells
   pub objects : objects_of hall_now ≡ objects_of hall
   pub grows : (q : ℕ) → IsPrefix (history_at hall q) (history_at hall_now q)
   pub port_grows : IsPrefix port port_now
   pub driven : (k : Code) → AreDriven code asks k (objects_of hall) shells hall port → AreDriven code asks k (objects_of hall) shells_now hall_now port_now
-  pub goes_on : (k : Code) (steps : ℕ) → AreDriven code asks k (objects_of hall) shells hall port → AreLegal hall_now → stays_failed port_now ≡ true
+  pub goes_on : (k : Code) (steps : ℕ) → AreDriven code asks k (objects_of hall) shells hall port
       → (picks : List Pick) × GoesOnBy (workers_setup (asks k) (objects_of hall)) (record_now steps shells hall port) picks (record_now steps shells_now hall_now port_now)
+
+-- Whatever code the shells drive, and whatever the step budget is, `leads` holds from the record of these shells, this hall
+-- and this port to the record of those.
+abbrev pub RecordLeads : {M Code : Type 0} → (code : M → Code) → (asks : Code → Rule) → (shells shells_now : List (ShellView M)) → (hall hall_now : List HallObject) → (port port_now : List OutEntry) → (leads : Setup → Outcome → Outcome → Type 0) → Type 0
+RecordLeads {M} {Code} code asks shells shells_now hall hall_now port port_now leads =
+    (k : Code) (steps : ℕ) → AreDriven code asks k (objects_of hall) shells hall port
+    → leads (workers_setup (asks k) (objects_of hall)) (record_now steps shells hall port) (record_now steps shells_now hall_now port_now)
 
 -- Shells that have done nothing yet: they are numbered from 1 on, and run one code each.
 pub record AreNew {M Code : Type 0} (code : M → Code) (k : Code) (shells : List (ShellView M)) : Type 0 where

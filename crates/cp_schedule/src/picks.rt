@@ -1,7 +1,8 @@
-ghost use Rattle.std.specs.Prelude.{◌≡◌, true, ℕ, IfOk, length};
-ghost use Rattle.cp_call.specs.Sound.{Going, stays_failed};
-ghost use Rattle.cp_hall.specs.Hall.{objects_of, AreLegal};
-ghost use Rattle.cp_schedule.specs.Record.{AreDriven, IsReady, IsLater, record_now, workers_setup};
+ghost use Rattle.std.specs.Prelude.{◌≡◌, ℕ, OnOk};
+ghost use Rattle.cp_call.specs.Sound.{Going};
+ghost use Rattle.cp_hall.specs.Hall.{objects_of};
+ghost use Rattle.cp_schedule.specs.Record.{AreDriven, IsReady, IsLater, RecordLeads, record_now, workers_setup};
+ghost use Rattle.cp_schedule.specs.Turns.{TakesPick, TakesPicks};
 
 use crate::awake::is_parked;
 use crate::seat::take_turn;
@@ -22,8 +23,10 @@ fn drive_pick<M: Machine, S: Sink>(
 ) -> Result<(), AllocError>
     requires ready { IsReady M.code M.Rule.asks M.Rule.objects shells.old.items hall.old port.old.entries }
     ensures later { IsLater M.code M.Rule.asks shells.old.items shells.new.items hall.old hall.new port.old.entries port.new.entries }
+    ensures pick { OnOk result (RecordLeads M.code M.Rule.asks shells.old.items shells.new.items hall.old hall.new port.old.entries port.new.entries (λ s before after. TakesPick s before pick after)) }
     ensures first { port.new.first ≡ port.old.first }
 {
+    hall.state_invariant();
     let number = pick as usize;
     if number == 0 || shells.len() < number {
         return Ok(());
@@ -31,13 +34,13 @@ fn drive_pick<M: Machine, S: Sink>(
     if is_parked(&shells[number - 1], hall)? {
         return Ok(());
     }
-    let _parked = take_turn(shells, number - 1, hall, port)?;
+    take_turn(shells, number - 1, hall, port)?;
     Ok(())
 }
 
 /// Drives workers by a list of picks, one turn after another. Each pick is a worker's number from 1; one that names no
-/// worker, or a worker that is parked, does nothing. Whatever the picks, the record of the run is one that events of its
-/// workers have led to, and stays going.
+/// worker, or a worker that is parked, does nothing, and every other one drives its worker. Whatever the picks, the record
+/// of the run is one that events of its workers have led to, and stays going.
 pub fn drive_picks<M: Machine, S: Sink>(
     shells: &mut Vec<Shell<M>>,
     picks: &[u32],
@@ -46,7 +49,8 @@ pub fn drive_picks<M: Machine, S: Sink>(
 ) -> Result<(), AllocError>
     requires ready { IsReady M.code M.Rule.asks M.Rule.objects shells.old.items hall.old port.old.entries }
     ensures later { IsLater M.code M.Rule.asks shells.old.items shells.new.items hall.old hall.new port.old.entries port.new.entries }
-    ensures going { (k : M.Rule.Code) (steps : ℕ) → AreDriven M.code M.Rule.asks k (objects_of hall.old) shells.old.items hall.old port.old.entries → AreLegal hall.new → stays_failed port.new.entries ≡ true → Going (workers_setup (M.Rule.asks k) (objects_of hall.old)) (record_now steps shells.old.items hall.old port.old.entries) → Going (workers_setup (M.Rule.asks k) (objects_of hall.old)) (record_now steps shells.new.items hall.new port.new.entries) }
+    ensures picks { OnOk result (RecordLeads M.code M.Rule.asks shells.old.items shells.new.items hall.old hall.new port.old.entries port.new.entries (λ s before after. TakesPicks s before picks.now after)) }
+    ensures going { (k : M.Rule.Code) (steps : ℕ) → AreDriven M.code M.Rule.asks k (objects_of hall.old) shells.old.items hall.old port.old.entries → Going (workers_setup (M.Rule.asks k) (objects_of hall.old)) (record_now steps shells.old.items hall.old port.old.entries) → Going (workers_setup (M.Rule.asks k) (objects_of hall.old)) (record_now steps shells.new.items hall.new port.new.entries) }
     ensures first { port.new.first ≡ port.old.first }
 {
     for pick in picks {

@@ -1,11 +1,13 @@
-ghost use Rattle.std.specs.Prelude.{◌≡◌, true, cond, [], ◌∷◌, ◌++◌, length, IfOk, OnOk, IfSome};
+ghost use Rattle.std.specs.Prelude.{◌≡◌, ℕ, true, false, cond, [], ◌∷◌, ◌++◌, length, IfOk, OnOk, IfSome};
+ghost use Rattle.rand_pcg.specs.Pcg.{pcg32};
 ghost use Rattle.cp_call.specs.declared.outcome.Outcome.{Outcome};
 ghost use Rattle.cp_call.specs.Sound.{Sound};
 ghost use Rattle.cp_hall.specs.Hall.{objects_of};
 ghost use Rattle.cp_out.specs.Port.{Records};
 ghost use Rattle.cp_schedule.specs.Awake.{AllKnow, AllParked, awake_below};
-ghost use Rattle.cp_schedule.specs.Record.{AreNew, IsReady, IsLater, workers_setup};
+ghost use Rattle.cp_schedule.specs.Record.{AreNew, IsReady, IsLater, RecordLeads, workers_setup};
 ghost use Rattle.cp_schedule.specs.Ended.{IsFresh, IsOfWorkers, HasRunTo};
+ghost use Rattle.cp_schedule.specs.Turns.{IsRunOfSeed, RunsToEnd, TakesNextTurn, all_at_rest, awake_places, generator_of};
 
 use crate::awake::is_parked;
 use crate::end::{SimEnd, end_record, stop};
@@ -58,15 +60,18 @@ fn take_drawn_turn<M: Machine, S: Sink>(
 ) -> Result<bool, AllocError>
     requires ready { IsReady M.code M.Rule.asks M.Rule.objects shells.old.items hall.old port.old.entries }
     ensures later { IsLater M.code M.Rule.asks shells.old.items shells.new.items hall.old hall.new port.old.entries port.new.entries }
+    ensures ended { IfOk result (λ ended. ended ≡ true → RecordLeads M.code M.Rule.asks shells.old.items shells.new.items hall.old hall.new port.old.entries port.new.entries (λ s before after. (awake_places before ≡ []) × (after ≡ before))) }
+    ensures turn { IfOk result (λ ended. ended ≡ false → (words.new ≡ (pcg32 words.old).1) × RecordLeads M.code M.Rule.asks shells.old.items shells.new.items hall.old hall.new port.old.entries port.new.entries (λ s before after. TakesNextTurn s words.old before after)) }
     ensures parked { IfOk result (λ ended. ended ≡ true → AllParked hall.new shells.new.items) }
     ensures first { port.new.first ≡ port.old.first }
 {
+    hall.state_invariant();
     let awake = awake_places(alloc, shells, hall)?;
     if awake.is_empty() {
         return Ok(true);
     }
     let place = awake[words.next_word() as usize % awake.len()];
-    let _parked = take_turn(shells, place, hall, port)?;
+    take_turn(shells, place, hall, port)?;
     Ok(false)
 }
 
@@ -80,6 +85,7 @@ fn take_turns<M: Machine, S: Sink>(
 ) -> Result<(), AllocError>
     requires ready { IsReady M.code M.Rule.asks M.Rule.objects shells.old.items hall.old port.old.entries }
     ensures later { IsLater M.code M.Rule.asks shells.old.items shells.new.items hall.old hall.new port.old.entries port.new.entries }
+    ensures run { OnOk result (RecordLeads M.code M.Rule.asks shells.old.items shells.new.items hall.old hall.new port.old.entries port.new.entries (λ s before after. (turns : ℕ) × RunsToEnd s (generator_of seed) turns before (all_at_rest after))) }
     ensures parked { OnOk result (AllParked hall.new shells.new.items) }
     ensures first { port.new.first ≡ port.old.first }
 {
@@ -106,6 +112,7 @@ pub fn simulate<M: Machine, S: Sink>(
 ) -> SimEnd<S>
     requires fresh { IsFresh M.code M.Rule.objects shells.items hall }
     ensures sound { (k : M.Rule.Code) → AreNew M.code k shells.items → IfSome result.outcome (Sound (workers_setup (M.Rule.asks k) (objects_of hall))) }
+    ensures run { (k : M.Rule.Code) → AreNew M.code k shells.items → IfSome result.outcome (IsRunOfSeed (workers_setup (M.Rule.asks k) (objects_of hall)) seed steps (length shells.items)) }
     ensures workers { IfSome result.outcome (IsOfWorkers steps (length shells.items)) }
     ensures records { IfSome result.outcome (λ o. Records S.held S.faults sink o.port result.sink) }
     ensures ran { (k : M.Rule.Code) → AreNew M.code k shells.items → (o : Outcome) × HasRunTo S.held S.faults (workers_setup (M.Rule.asks k) (objects_of hall)) steps (length shells.items) sink result.sink o }
