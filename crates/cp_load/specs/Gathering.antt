@@ -11,7 +11,7 @@ use Rattle.cp_module.specs.declared.why.Why.{Why}
 use Rattle.cp_module.specs.declared.why.Why.TheVariants as why
 use Rattle.cp_module.specs.Paths.{base_of, imported_file}
 use Rattle.cp_module.specs.declared.cause.Cause.{Cause}
-use Rattle.cp_module.specs.Texts.{text_of}
+use Rattle.cp_module.specs.Texts.{Text, text_of}
 use Rattle.cp_module.specs.Parts.{Part, part}
 use Rattle.cp_module.specs.Causes.{refused, unless, cause_on, least}
 use Rattle.cp_link.specs.Modules.{name_of, said}
@@ -100,21 +100,36 @@ step_fault known parts p =
 abbrev pub most_bytes : ℕ
 most_bytes = 1048576
 
+-- what a file is by itself: a part of the program, or the end of its loading
+pub data Taken : Type 0 where
+  Takes : Part → Taken
+  Ends : Gathered → Taken
+
+abbrev pub judged : (file : List ℕ) → Text → Option Cause → Taken
+judged file text (Some c) = Ends (Refuses (record { file = file; cause = c }))
+judged file text None = Takes (part file text)
+
+abbrev pub judged_text : (file : List ℕ) → Text → Taken
+judged_text file text = judged file text (refused (base_of file) text)
+
+-- the file of this name with these bytes, if it is there
+abbrev pub taken : (file : List ℕ) → Option (List ℕ) → Taken
+taken file None = Ends (Missing file)
+taken file (Some bytes) = cond (nat_lt most_bytes (length bytes)) (Ends (TooBig file)) (judged_text file (text_of bytes))
+
+abbrev pub unless_refused : Option Fault → Gathered → Gathered
+unless_refused (Some f) other = Refuses f
+unless_refused None other = other
+
 -- The files behind those that are loaded. Files are known in loading order, so the next one is the known one with the number of
 -- those that are loaded. No more than 64 are known, so that the bound is never met.
 abbrev pub gather : ℕ → Tree → (known : List (List ℕ)) → List Part → Gathered
 gather zero tree known parts = Files parts
 gather (suc most) tree known parts = elim (slice_get known (length parts)) [
   | None ↦ Files parts
-  | Some file ↦ elim (tree file) [
-    | None ↦ Missing file
-    | Some bytes ↦ cond (nat_lt most_bytes (length bytes)) (TooBig file) (elim (refused (base_of file) (text_of bytes)) [
-      | Some c ↦ Refuses (record { file = file; cause = c })
-      | None ↦ elim (step_fault known parts (part file (text_of bytes))) [
-        | Some f ↦ Refuses f
-        | None ↦ gather most tree (known_after known file (text_of bytes).clauses) (parts ++ part file (text_of bytes) ∷ [])
-      ]
-    ])
+  | Some file ↦ elim (taken file (tree file)) [
+    | Ends end ↦ end
+    | Takes p ↦ unless_refused (step_fault known parts p) (gather most tree (known_after known p.file p.clauses) (parts ++ p ∷ []))
   ]
 ]
 
