@@ -1,5 +1,5 @@
 -- What loading answers.
-use Rattle.std.specs.Prelude.{◌≡◌, ◌≢◌, ℕ, Bool, List, [], ◌∷◌, Option, Some, None, Result, Ok, Err, IfSome}
+use Rattle.std.specs.Prelude.{◌≡◌, ℕ, Bool, List, [], ◌∷◌, Option, Result, Ok, Err, IfSome}
 use Rattle.cp_io.specs.Cause.{Rose}
 use Rattle.cp_io.specs.Content.{Tree}
 use Rattle.cp_code.specs.declared.assertion.Assertion.{Assertion}

@@ -1,17 +1,16 @@
 -- The files of a program, in loading order: the first file, and then those that files import, breadth first in the order of
 -- their declarations, each once.
-use Rattle.std.specs.Prelude.{ℕ, zero, suc, ◌+◌, Bool, not, ◌&&◌, nat_eq, nat_lt, cond, true, false, List, [], ◌∷◌, ◌++◌, length, Option, Some, None, slice_get}
-use Rattle.std.specs.List.{list_any, flat_map}
+use Rattle.std.specs.Prelude.{ℕ, zero, suc, Bool, not, nat_lt, cond, true, false, List, [], ◌∷◌, ◌++◌, length, Option, Some, None, slice_get}
+use Rattle.std.specs.List.{list_any}
 use Rattle.std.specs.Str.{bytes_eq}
 use Rattle.cp_io.specs.Content.{Tree}
 use Rattle.cp_read.specs.declared.clause.ReadClause.{ReadClause}
 use Rattle.cp_declaration.specs.declared.declaration.Declaration.{Declaration}
 use Rattle.cp_declaration.specs.declared.declaration.Declaration.TheVariants as declares
-use Rattle.cp_module.specs.declared.why.Why.{Why}
 use Rattle.cp_module.specs.declared.why.Why.TheVariants as why
 use Rattle.cp_module.specs.Paths.{base_of, imported_file}
 use Rattle.cp_module.specs.declared.cause.Cause.{Cause}
-use Rattle.cp_module.specs.Texts.{Text, text_of}
+use Rattle.cp_module.specs.Texts.{text_of}
 use Rattle.cp_module.specs.Parts.{Part, part}
 use Rattle.cp_module.specs.Causes.{refused, unless, cause_on, least}
 use Rattle.cp_link.specs.Modules.{name_of, said}
@@ -105,33 +104,35 @@ pub data Taken : Type 0 where
   Takes : Part → Taken
   Ends : Gathered → Taken
 
-abbrev pub judged : (file : List ℕ) → Text → Option Cause → Taken
-judged file text (Some c) = Ends (Refuses (record { file = file; cause = c }))
-judged file text None = Takes (part file text)
-
-abbrev pub judged_text : (file : List ℕ) → Text → Taken
-judged_text file text = judged file text (refused (base_of file) text)
+abbrev pub judged : (file bytes : List ℕ) → Option Cause → Taken
+judged file bytes (Some c) = Ends (Refuses (record { file = file; cause = c }))
+judged file bytes None = Takes (part file (text_of bytes))
 
 -- the file of this name with these bytes, if it is there
 abbrev pub taken : (file : List ℕ) → Option (List ℕ) → Taken
 taken file None = Ends (Missing file)
-taken file (Some bytes) = cond (nat_lt most_bytes (length bytes)) (Ends (TooBig file)) (judged_text file (text_of bytes))
+taken file (Some bytes) = cond (nat_lt most_bytes (length bytes)) (Ends (TooBig file)) (judged file bytes (refused (base_of file) (text_of bytes)))
 
 abbrev pub unless_refused : Option Fault → Gathered → Gathered
 unless_refused (Some f) other = Refuses f
 unless_refused None other = other
 
+abbrev pub unless_ended : Taken → (Part → Gathered) → Gathered
+unless_ended (Ends end) next = end
+unless_ended (Takes p) next = next p
+
+abbrev pub unless_last : List Part → Option (List ℕ) → (List ℕ → Gathered) → Gathered
+unless_last parts None next = Files parts
+unless_last parts (Some file) next = next file
+
 -- The files behind those that are loaded. Files are known in loading order, so the next one is the known one with the number of
 -- those that are loaded. No more than 64 are known, so that the bound is never met.
 abbrev pub gather : ℕ → Tree → (known : List (List ℕ)) → List Part → Gathered
 gather zero tree known parts = Files parts
-gather (suc most) tree known parts = elim (slice_get known (length parts)) [
-  | None ↦ Files parts
-  | Some file ↦ elim (taken file (tree file)) [
-    | Ends end ↦ end
-    | Takes p ↦ unless_refused (step_fault known parts p) (gather most tree (known_after known p.file p.clauses) (parts ++ p ∷ []))
-  ]
-]
+gather (suc most) tree known parts =
+    unless_last parts (slice_get known (length parts)) (λ file.
+    unless_ended (taken file (tree file)) (λ p.
+    unless_refused (step_fault known parts p) (gather most tree (known_after known p.file p.clauses) (parts ++ p ∷ []))))
 
 unfoldable pub gathered : Tree → (name : List ℕ) → Gathered
 gathered tree name = gather 65 tree (name ∷ []) []

@@ -1,5 +1,5 @@
 -- What files make, from what is gathered to a program.
-use Rattle.std.specs.Prelude.{◌≡◌, Bool, true, false, List, [], ◌∷◌, Option, Some, None, Result, Ok, Err}
+use Rattle.std.specs.Prelude.{◌≡◌, Bool, true, false, List, [], Option, Some, None, Result, Ok, Err}
 use Rattle.std.specs.List.{list_any}
 use Rattle.cp_ops.specs.Operators.{Ops}
 use Rattle.cp_code.specs.declared.program.Program.{Program}
@@ -8,7 +8,7 @@ use Rattle.cp_declaration.specs.declared.declaration.Declaration.TheVariants as 
 use Rattle.cp_module.specs.declared.module.Loaded.{Loaded}
 use Rattle.cp_module.specs.declared.module.Loaded.TheVariants as loaded
 use Rattle.cp_module.specs.Parts.{Part}
-use Rattle.cp_link.specs.Modules.{said}
+use Rattle.cp_link.specs.Modules.{said, shared_in}
 use Rattle.cp_link.specs.Kept.{fault_of}
 use Rattle.cp_link.specs.Refusals as refusals
 use Rattle.cp_link.specs.Answers.{Assembles}
@@ -20,9 +20,9 @@ use Rattle.cp_load.specs.Accepted as accepted
 use Rattle.cp_load.specs.Accepted.{IsProgramOf}
 use Rattle.cp_load.specs.Answers.{IsSafe}
 
--- the prelude, unless memory runs out
+-- the prelude, which declares no predicate to be shared, unless memory runs out
 abbrev pub IsPrelude : Loaded → Type 0
-IsPrelude (loaded.Part p) = p ≡ prelude
+IsPrelude (loaded.Part p) = (p ≡ prelude) × (shared_in p.clauses ≡ [])
 IsPrelude (loaded.Refused r) = ⊥
 IsPrelude loaded.NoMemory = Unit {0}
 

@@ -1,5 +1,5 @@
 -- How far files are loaded, and what loading answers of them by then.
-use Rattle.std.specs.Prelude.{◌≡◌, ℕ, ◌-◌, ◌≤◌, Bool, false, List, [], ◌∷◌, length, take, Option, Some, None, Result, Ok, Err, IfSome}
+use Rattle.std.specs.Prelude.{◌≡◌, ℕ, ◌-◌, ◌≤◌, false, List, [], ◌∷◌, length, take, Option, Result, Ok, Err, IfSome}
 use Rattle.cp_io.specs.Content.{Tree}
 use Rattle.cp_module.specs.Parts.{Part}
 use Rattle.cp_link.specs.Kept.{fault_of}

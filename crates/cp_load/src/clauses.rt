@@ -38,11 +38,7 @@ fn has_clause(clauses: &[ReadClause], pred: &Indicator) -> bool
 }
 
 /// Whether one of the clauses declares a predicate to be shared.
-fn is_shared(
-    alloc: Global,
-    clauses: &[ReadClause],
-    pred: &Indicator,
-) -> Result<bool, AllocError>
+fn is_shared(alloc: Global, clauses: &[ReadClause], pred: &Indicator) -> Result<bool, AllocError>
     ensures { IfOk result (λ found. found ≡ is_shared clauses.now pred.now) }
 {
     for clause in clauses {

@@ -1,5 +1,4 @@
-ghost use Rattle.std.specs.Prelude.{◌≡◌, ◌≤◌, ◌<◌, ℕ, List, length, take, Some};
-ghost use Rattle.cp_io.specs.Content.{Tree};
+ghost use Rattle.std.specs.Prelude.{◌≡◌, ◌+◌, ◌≤◌, ◌<◌, ℕ, List, length, Some, OnOk};
 ghost use Rattle.cp_load.specs.Answers.{HasCause};
 ghost use Rattle.cp_load.specs.Gathering.{most_bytes, taken};
 ghost use Rattle.cp_load.specs.Reached.{Gathers, IsTaken, TakesFile, IsReached, Reaches};
@@ -46,6 +45,7 @@ fn gather_next<F: Files>(
     ensures loads { (name : List ℕ) → IsReached (F.tree files.old) name known.old parts.old → Reaches (F.tree files.old) name known.new parts.new result }
     ensures cause { HasCause (F.faults files.old) (F.faults files.new) (F.misses files.old) (F.misses files.new) result }
     ensures tree { F.tree files.new ≡ F.tree files.old }
+    ensures more { OnOk result (length parts.new ≡ length parts.old + 1) }
 {
     let file = &known.as_slice()[parts.len() as usize];
     let part = load_file(alloc, files, file.as_slice())?;
@@ -58,11 +58,7 @@ fn gather_next<F: Files>(
 }
 
 /// What the file of this name is by itself.
-fn load_file<F: Files>(
-    alloc: Global,
-    files: &mut F,
-    file: &[u8],
-) -> Result<ModulePart, LoadError>
+fn load_file<F: Files>(alloc: Global, files: &mut F, file: &[u8]) -> Result<ModulePart, LoadError>
     ensures loads { TakesFile (F.tree files.old) file.now result }
     ensures cause { HasCause (F.faults files.old) (F.faults files.new) (F.misses files.old) (F.misses files.new) result }
     ensures tree { F.tree files.new ≡ F.tree files.old }
@@ -78,7 +74,8 @@ fn load_file<F: Files>(
 /// What the file with this name and these bytes is by itself.
 fn part_of(alloc: Global, file: Bytes, text: &[u8]) -> Result<ModulePart, LoadError>
     requires { length text.now ≤ most_bytes + 1 }
-    ensures { IsTaken file (Some text.now) result }
+    ensures loads { IsTaken file (Some text.now) result }
+    ensures cause { (faults misses : ℕ) → HasCause faults faults misses misses result }
 {
     if text.len() > MOST_BYTES as usize {
         return Err(LoadError::FileTooBig(file));

@@ -1,6 +1,8 @@
-ghost use Rattle.std.specs.Prelude.{◌≡◌};
+ghost use Rattle.std.specs.Prelude.{◌≡◌, []};
+ghost use Rattle.cp_link.specs.Modules.{shared_in};
 ghost use Rattle.cp_load.specs.Answers.{Loads, HasCause};
 ghost use Rattle.cp_load.specs.Loading.{Makes, MakesLinked};
+ghost use Rattle.cp_load.specs.Prelude.{prelude};
 
 use crate::error::LoadError;
 use crate::gathering::gather;
@@ -58,7 +60,7 @@ fn linked(alloc: Global, parts: &ModuleParts) -> Result<Program, LoadError>
     ensures { MakesLinked parts.now result }
 {
     match prelude(alloc) {
-        Loaded::Part(prelude) => linked_with(alloc, parts, &prelude),
+        Loaded::Part(common) => linked_with(alloc, parts, &common),
         Loaded::Refused(_) => Err(LoadError::NoMemory),
         Loaded::NoMemory => Err(LoadError::NoMemory),
     }
@@ -67,12 +69,13 @@ fn linked(alloc: Global, parts: &ModuleParts) -> Result<Program, LoadError>
 fn linked_with(
     alloc: Global,
     parts: &ModuleParts,
-    prelude: &ModulePart,
+    common: &ModulePart,
 ) -> Result<Program, LoadError>
-    requires { prelude.now ≡ prelude }
+    requires prelude { common.now ≡ prelude }
+    requires shares { shared_in common.now.clauses ≡ [] }
     ensures { MakesLinked parts.now result }
 {
-    match link(alloc, parts, prelude) {
+    match link(alloc, parts, common) {
         Ok(program) => Ok(program),
         Err(LinkError::Refused(refusal)) => Err(LoadError::Refused(refusal)),
         Err(LinkError::NoMemory) => Err(LoadError::NoMemory),

@@ -129,11 +129,7 @@ pub(crate) fn header_line(clauses: &[ReadClause]) -> u32
 }
 
 /// Whether a clause of a file imports the first file.
-fn imports_first(
-    alloc: Global,
-    first: &ModulePart,
-    part: &ModulePart,
-) -> Result<bool, AllocError>
+fn imports_first(alloc: Global, first: &ModulePart, part: &ModulePart) -> Result<bool, AllocError>
     ensures { IfOk result (λ found. found ≡ imports_first first.now part.now) }
 {
     import(alloc, part.clauses().as_slice(), first.file(), part.file())

