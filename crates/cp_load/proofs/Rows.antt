@@ -1,6 +1,6 @@
 -- Worked rows of loading: what small trees of files come to. A file's text is read, judged and linked by the definitions
 -- themselves.
-use Rattle.std.proofs.Common.{◌≡◌, ℕ, Bool, true, false, List, [], ◌∷◌, Option, Some, None, refl}
+use Rattle.std.proofs.Common.{◌≡◌, ℕ, true, false, Option, Some, None, refl}
 use Rattle.std.specs.Prelude.{codes, if◌then◌else◌, length}
 use Prim.Native.String.{String}
 use Rattle.std.specs.Str.{bytes_eq}
@@ -24,7 +24,7 @@ use Rattle.cp_load.specs.Types.{type_fault, typed}
 use Rattle.cp_load.specs.Assertions.{assertion_fault}
 use Rattle.cp_load.specs.Gathering.{gathered}
 use Rattle.cp_load.specs.Prelude as prelude
-use Rattle.cp_load.specs.Accepted.{Outcome, Accepts, Refuses, Missing, TooBig, outcome, program_of}
+use Rattle.cp_load.specs.Accepted.{Outcome, Accepts, Refuses, Missing, outcome, program_of}
 
 -- ---- trees of files
 

@@ -1,13 +1,13 @@
 -- What loading answers.
-use Rattle.std.specs.Prelude.{◌≡◌, ◌≢◌, ℕ, Bool, List, [], ◌∷◌, Option, Some, None, Result, Ok, Err, IfSome}
+use Rattle.std.specs.Prelude.{◌≡◌, ℕ, Bool, List, [], ◌∷◌, Option, Result, Ok, Err, IfSome}
 use Rattle.cp_io.specs.Cause.{Rose}
 use Rattle.cp_io.specs.Content.{Tree}
 use Rattle.cp_code.specs.declared.assertion.Assertion.{Assertion}
 use Rattle.cp_code.specs.declared.program.Program.{Program}
 use Rattle.cp_link.specs.Lawful.{IsRunnable}
 use Rattle.cp_assertion.specs.Assertions.{SpeaksOfArguments}
-use Rattle.cp_load.specs.declared.loading.LoadError.{LoadError}
-use Rattle.cp_load.specs.declared.loading.LoadError.TheVariants as error
+use Rattle.cp_load.specs.declared.error.LoadError.{LoadError}
+use Rattle.cp_load.specs.declared.error.LoadError.TheVariants as error
 use Rattle.cp_load.specs.Accepted as accepted
 use Rattle.cp_load.specs.Accepted.{outcome, Accepted}
 
@@ -35,7 +35,7 @@ abbrev pub Loads : Option Tree → (name : List ℕ) → (needs_main : Bool) →
 Loads told name needs_main answer = (tree : Tree) × IfSome told (λ files. tree ≡ files) × Decides tree name needs_main answer
 
 -- a fault comes from the files, and so does a miss
-abbrev pub HasCause : (faults faults_now misses misses_now : ℕ) → Result Program LoadError → Type 0
+abbrev pub HasCause : {A : Type 0} → (faults faults_now misses misses_now : ℕ) → Result A LoadError → Type 0
 HasCause faults faults_now misses misses_now (Err (error.FileFault file)) = Rose faults faults_now
 HasCause faults faults_now misses misses_now (Err (error.Missing file)) = Rose misses misses_now × (faults_now ≡ faults)
 HasCause faults faults_now misses misses_now answer = (faults_now ≡ faults) × (misses_now ≡ misses)

@@ -1,13 +1,12 @@
 -- The files of a program, in loading order: the first file, and then those that files import, breadth first in the order of
 -- their declarations, each once.
-use Rattle.std.specs.Prelude.{ℕ, zero, suc, ◌+◌, Bool, not, ◌&&◌, nat_eq, nat_lt, cond, true, false, List, [], ◌∷◌, ◌++◌, length, Option, Some, None, slice_get}
-use Rattle.std.specs.List.{list_any, flat_map}
+use Rattle.std.specs.Prelude.{ℕ, zero, suc, Bool, not, nat_lt, cond, true, false, List, [], ◌∷◌, ◌++◌, length, Option, Some, None, slice_get}
+use Rattle.std.specs.List.{list_any}
 use Rattle.std.specs.Str.{bytes_eq}
 use Rattle.cp_io.specs.Content.{Tree}
 use Rattle.cp_read.specs.declared.clause.ReadClause.{ReadClause}
 use Rattle.cp_declaration.specs.declared.declaration.Declaration.{Declaration}
 use Rattle.cp_declaration.specs.declared.declaration.Declaration.TheVariants as declares
-use Rattle.cp_module.specs.declared.why.Why.{Why}
 use Rattle.cp_module.specs.declared.why.Why.TheVariants as why
 use Rattle.cp_module.specs.Paths.{base_of, imported_file}
 use Rattle.cp_module.specs.declared.cause.Cause.{Cause}
@@ -100,23 +99,40 @@ step_fault known parts p =
 abbrev pub most_bytes : ℕ
 most_bytes = 1048576
 
+-- what a file is by itself: a part of the program, or the end of its loading
+pub data Taken : Type 0 where
+  Takes : Part → Taken
+  Ends : Gathered → Taken
+
+abbrev pub judged : (file bytes : List ℕ) → Option Cause → Taken
+judged file bytes (Some c) = Ends (Refuses (record { file = file; cause = c }))
+judged file bytes None = Takes (part file (text_of bytes))
+
+-- the file of this name with these bytes, if it is there
+abbrev pub taken : (file : List ℕ) → Option (List ℕ) → Taken
+taken file None = Ends (Missing file)
+taken file (Some bytes) = cond (nat_lt most_bytes (length bytes)) (Ends (TooBig file)) (judged file bytes (refused (base_of file) (text_of bytes)))
+
+abbrev pub unless_refused : Option Fault → Gathered → Gathered
+unless_refused (Some f) other = Refuses f
+unless_refused None other = other
+
+abbrev pub unless_ended : Taken → (Part → Gathered) → Gathered
+unless_ended (Ends end) next = end
+unless_ended (Takes p) next = next p
+
+abbrev pub unless_last : List Part → Option (List ℕ) → (List ℕ → Gathered) → Gathered
+unless_last parts None next = Files parts
+unless_last parts (Some file) next = next file
+
 -- The files behind those that are loaded. Files are known in loading order, so the next one is the known one with the number of
 -- those that are loaded. No more than 64 are known, so that the bound is never met.
 abbrev pub gather : ℕ → Tree → (known : List (List ℕ)) → List Part → Gathered
 gather zero tree known parts = Files parts
-gather (suc most) tree known parts = elim (slice_get known (length parts)) [
-  | None ↦ Files parts
-  | Some file ↦ elim (tree file) [
-    | None ↦ Missing file
-    | Some bytes ↦ cond (nat_lt most_bytes (length bytes)) (TooBig file) (elim (refused (base_of file) (text_of bytes)) [
-      | Some c ↦ Refuses (record { file = file; cause = c })
-      | None ↦ elim (step_fault known parts (part file (text_of bytes))) [
-        | Some f ↦ Refuses f
-        | None ↦ gather most tree (known_after known file (text_of bytes).clauses) (parts ++ part file (text_of bytes) ∷ [])
-      ]
-    ])
-  ]
-]
+gather (suc most) tree known parts =
+    unless_last parts (slice_get known (length parts)) (λ file.
+    unless_ended (taken file (tree file)) (λ p.
+    unless_refused (step_fault known parts p) (gather most tree (known_after known p.file p.clauses) (parts ++ p ∷ []))))
 
 unfoldable pub gathered : Tree → (name : List ℕ) → Gathered
 gathered tree name = gather 65 tree (name ∷ []) []

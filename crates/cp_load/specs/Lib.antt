@@ -4,3 +4,5 @@ pub mod Types
 pub mod Assertions
 pub mod Accepted
 pub mod Answers
+pub mod Reached
+pub mod Loading

@@ -1,6 +1,6 @@
 -- The regular types of a program. Each is declared once, and has the clauses of the predicate of that name with one argument
 -- in the file that declares it. They are added in the order of their first clauses.
-use Rattle.std.specs.Prelude.{ℕ, Bool, false, not, ◌||◌, ◌&&◌, nat_eq, cond, List, [], ◌∷◌, ◌++◌, map, filter, Option, Some, None, slice_get}
+use Rattle.std.specs.Prelude.{ℕ, Bool, false, ◌||◌, ◌&&◌, nat_eq, List, [], ◌∷◌, ◌++◌, map, filter, Option, Some, None, slice_get}
 use Rattle.std.specs.List.{list_any, flat_map}
 use Rattle.std.specs.Str.{bytes_eq}
 use Rattle.cp_read.specs.declared.clause.ReadClause.{ReadClause}
@@ -9,13 +9,12 @@ use Rattle.cp_code.specs.declared.type_row.TypeRow.{TypeRow}
 use Rattle.cp_declaration.specs.declared.declaration.Declaration.{Declaration}
 use Rattle.cp_declaration.specs.declared.declaration.Declaration.TheVariants as declares
 use Rattle.cp_declaration.specs.declared.indicator.Indicator.{Indicator}
-use Rattle.cp_module.specs.declared.why.Why.{Why}
 use Rattle.cp_module.specs.declared.why.Why.TheVariants as why
 use Rattle.cp_module.specs.declared.cause.Cause.{Cause}
 use Rattle.cp_module.specs.Parts.{Part}
 use Rattle.cp_module.specs.Causes.{pred_of, clauses_of, unless, cause_on, least}
 use Rattle.cp_link.specs.Modules.{name_of, said, one, distinct}
-use Rattle.cp_link.specs.Linked.{clause_in, types_in}
+use Rattle.cp_link.specs.Linked.{clause_in}
 use Rattle.cp_link.specs.Refusals.{Fault, or_later}
 use Rattle.cp_assertion.specs.RegularTypes.{first_irregular, given}
 

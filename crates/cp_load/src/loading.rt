@@ -1,9 +1,19 @@
-ghost use Rattle.std.specs.Prelude.{◌≡◌, ◌≤◌};
+ghost use Rattle.std.specs.Prelude.{◌≡◌, []};
+ghost use Rattle.cp_link.specs.Modules.{shared_in};
 ghost use Rattle.cp_load.specs.Answers.{Loads, HasCause};
+ghost use Rattle.cp_load.specs.Loading.{Makes, MakesLinked};
+ghost use Rattle.cp_load.specs.Prelude.{prelude};
 
+use crate::error::LoadError;
+use crate::gathering::gather;
+use crate::main_goal::main_refusal;
+use crate::open::are_open;
+use crate::operators::operators_of;
+use crate::prelude::prelude;
 use cp_code::Program;
-use cp_io::{Bytes, Files};
-use cp_module::Refusal;
+use cp_io::Files;
+use cp_link::{LinkError, ModuleParts, link};
+use cp_module::{Loaded, ModulePart};
 use std::alloc::Global;
 
 /// What is asked of a program beside that its files are accepted.
@@ -13,19 +23,10 @@ pub struct Need {
     pub main: bool,
 }
 
-/// Why there is no program. A file is named by its name.
-#[derive(Debug, Drop)]
-pub enum LoadError {
-    Refused(Refusal),
-    Missing(Bytes),
-    FileTooBig(Bytes),
-    FileFault(Bytes),
-    NoMemory,
-}
-
-/// The program of the file of this name and of the files that it imports, directly or not.
+/// The program of the file of this name and of the files that it imports, directly or not. So far it answers want of memory
+/// for files that declare a regular type or an assertion.
 pub fn load<F: Files>(
-    _alloc: Global,
+    alloc: Global,
     files: &mut F,
     name: &[u8],
     need: Need,
@@ -34,7 +35,49 @@ pub fn load<F: Files>(
     ensures cause { HasCause (F.faults files.old) (F.faults files.new) (F.misses files.old) (F.misses files.new) result }
     ensures tree { F.tree files.new ≡ F.tree files.old }
 {
-    let _name = name;
-    let _need = need;
-    Err(LoadError::NoMemory)
+    let parts = gather(alloc, files, name)?;
+    program_of(alloc, parts, need.main)
+}
+
+/// The program that files make, with the prelude.
+fn program_of(alloc: Global, parts: ModuleParts, needs_main: bool) -> Result<Program, LoadError>
+    ensures { Makes needs_main parts result }
+{
+    let program = linked(alloc, &parts)?;
+    if are_open(alloc, parts.as_slice())? {
+        return Err(LoadError::NoMemory);
+    }
+    if let Some(refusal) = main_refusal(alloc, needs_main, parts.as_slice())? {
+        return Err(LoadError::Refused(refusal));
+    }
+    let mut program = program;
+    program.ops = operators_of(alloc, parts)?;
+    Ok(program)
+}
+
+/// The program that files make with the prelude, before its regular types have their clauses and its assertions are read.
+fn linked(alloc: Global, parts: &ModuleParts) -> Result<Program, LoadError>
+    ensures { MakesLinked parts.now result }
+{
+    match prelude(alloc) {
+        Loaded::Part(common) => linked_with(alloc, parts, &common),
+        Loaded::Refused(_) => Err(LoadError::NoMemory),
+        Loaded::NoMemory => Err(LoadError::NoMemory),
+    }
+}
+
+fn linked_with(
+    alloc: Global,
+    parts: &ModuleParts,
+    common: &ModulePart,
+) -> Result<Program, LoadError>
+    requires prelude { common.now ≡ prelude }
+    requires shares { shared_in common.now.clauses ≡ [] }
+    ensures { MakesLinked parts.now result }
+{
+    match link(alloc, parts, common) {
+        Ok(program) => Ok(program),
+        Err(LinkError::Refused(refusal)) => Err(LoadError::Refused(refusal)),
+        Err(LinkError::NoMemory) => Err(LoadError::NoMemory),
+    }
 }
