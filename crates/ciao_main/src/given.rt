@@ -1,5 +1,5 @@
 use cp_io::bytes_of;
-use cp_top::Words;
+use cp_words::Words;
 use std::alloc::Global;
 use std::{env, rt};
 

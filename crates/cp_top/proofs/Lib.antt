@@ -1,4 +1,3 @@
-pub mod CommandWords
-pub mod PlainObjects
 pub mod Telling
-pub mod Going
+pub mod Inside
+pub mod Examples

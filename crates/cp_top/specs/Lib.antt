@@ -1,4 +1,5 @@
-pub mod Words
 pub mod Ending
-pub mod Program
+pub mod Lines
 pub mod Written
+pub mod Loading
+pub mod Top

@@ -1,127 +1,96 @@
--- What the top call wrote on a sink whose count of faults was 0, and how it ended.
-use Rattle.std.specs.Prelude.{◌≡◌, ◌⊎◌, ℕ, zero, suc, ◌<◌, true, false, nat_lt, List, [], ◌++◌, length, take, Option, Some, None, IfSome, codes}
-use Rattle.cp_io.specs.Cause.{Rose}
-use Rattle.cp_io.specs.Content.{Tree, FetchedFrom}
-use Rattle.cp_io.specs.declared.files.Fetched.{Fetched}
-use Rattle.cp_io.specs.declared.files.Fetched.TheVariants as fetched
+-- What a call wrote on a sink whose count of faults was 0, and how it ended.
+use Rattle.std.specs.Prelude.{◌≡◌, ◌⊎◌, ℕ, zero, suc, List, ◌++◌, take, Option, Some, None}
 use Rattle.cp_call.specs.declared.outcome.Outcome.{Outcome}
-use Rattle.cp_plain.specs.declared.program.PlainProgram.{PlainProgram}
-use Rattle.cp_plain.specs.Program.{IsPlainFile, IsNoPlainFile}
-use Rattle.cp_top.specs.Words.{IsSim}
+use Rattle.cp_call.specs.Sound.{Going}
 use Rattle.cp_out.specs.Port.{pieces}
-use Rattle.cp_top.specs.Ending.{Ending, ending_of}
-use Rattle.cp_top.specs.Program.{IsPlainRun, IsPlainGoing}
+use Rattle.cp_code.specs.declared.program.Program.{Program}
+use Rattle.cp_schedule.specs.Ended.{IsOfWorkers}
+use Rattle.cp_simulate.specs.Runs.{setup, IsRunOf}
+use Rattle.cp_top.specs.Ending.{ending_of}
 
--- Where the sink tells what it holds, it has grown by these bytes while its count of faults is 0, and by a beginning of
--- them else.
-abbrev pub IsWritten : Option (List ℕ) → List ℕ → (count : ℕ) → Option (List ℕ) → Type 0
-IsWritten None bytes count held = held ≡ None
-IsWritten (Some before) bytes zero held = held ≡ Some (before ++ bytes)
-IsWritten (Some before) bytes (suc n) held = (k : ℕ) × (held ≡ Some (before ++ take k bytes))
+-- How a call ended: its status, the outcome where there is one, and its sink: how often it has failed, what it held at first,
+-- and what it holds.
+pub record CallEnd : Type 0 where
+  pub status : ℕ
+  pub outcome : Option Outcome
+  pub failures : ℕ
+  pub before : Option (List ℕ)
+  pub held : Option (List ℕ)
 
--- The status of a run: 74 where the sink failed, and else by how it ended. A run that did not end in a way that has a line
--- had a sink that failed.
-abbrev pub IsRunStatus : Option Ending → (count status : ℕ) → Type 0
-IsRunStatus None count status = (0 < count) × (status ≡ 74)
-IsRunStatus (Some e) zero status = status ≡ e.status
-IsRunStatus (Some e) (suc n) status = status ≡ 74
+-- a call that ended so, with this sink in place of the first one
+abbrev pub end_on : {S : Type 0} (held : S → Option (List ℕ)) (faults : S → ℕ) (first sink : S) (status : ℕ) → Option Outcome → CallEnd
+end_on held faults first sink status outcome = record {
+  status = status;
+  outcome = outcome;
+  failures = faults sink;
+  before = held first;
+  held = held sink;
+}
 
-abbrev pub last_line : Option Ending → List ℕ
-last_line None = []
-last_line (Some e) = e.line
+-- Where the sink tells what it holds, it has grown by these bytes where it never failed, and by a beginning of them else.
+abbrev pub HasPut : Option (List ℕ) → (bytes : List ℕ) → (failures : ℕ) → Option (List ℕ) → Type 0
+HasPut None bytes failures held = held ≡ None
+HasPut (Some before) bytes zero held = held ≡ Some (before ++ bytes)
+HasPut (Some before) bytes (suc n) held = (k : ℕ) × (held ≡ Some (before ++ take k bytes))
 
--- A program was run, and its run was told: the pieces of the port and the last line were written.
-pub record IsToldRun (p : PlainProgram) (o : Outcome) (status count : ℕ) (before held : Option (List ℕ)) : Type 0 where
-  pub run : IsPlainRun p o
-  pub status_is : IsRunStatus (ending_of o) count status
-  pub written : IsWritten before (pieces o.port ++ last_line (ending_of o)) count held
+abbrev pub IsWritten : List ℕ → CallEnd → Type 0
+IsWritten bytes e = HasPut e.before bytes e.failures e.held
 
--- A run was told, of whatever it was.
-pub record IsTold (o : Outcome) (status : ℕ) (outcome : Option Outcome) (count : ℕ) (before held : Option (List ℕ)) : Type 0 where
-  pub outcome_is : outcome ≡ Some o
-  pub status_is : IsRunStatus (ending_of o) count status
-  pub written : IsWritten before (pieces o.port ++ last_line (ending_of o)) count held
+-- the status where the sink never failed, and 74 else
+abbrev pub status_on : (failures status : ℕ) → ℕ
+status_on zero status = status
+status_on (suc n) status = 74
 
--- Nothing was run: the call ends with this status and line.
-pub record IsRefusal (with_status : ℕ) (line : List ℕ) (status : ℕ) (outcome : Option Outcome) (count : ℕ) (before held : Option (List ℕ)) : Type 0 where
-  pub status_is : status ≡ with_status
-  pub none : outcome ≡ None
-  pub written : IsWritten before line count held
+-- ---- nothing was run
 
--- Memory was short before anything was run: nothing was written.
-pub record IsShort (status : ℕ) (outcome : Option Outcome) (count : ℕ) (before held : Option (List ℕ)) : Type 0 where
-  pub status_is : status ≡ 70
-  pub none : outcome ≡ None
-  pub faultless : count ≡ 0
-  pub untouched : held ≡ before
+-- The call was refused: it ends with this status and line, whether the line could be written or not.
+pub record IsRefusal (status : ℕ) (line : List ℕ) (e : CallEnd) : Type 0 where
+  pub status_is : e.status ≡ status
+  pub none : e.outcome ≡ None
+  pub written : IsWritten line e
 
--- Memory stopped a run that had come to this, or the telling of it: what its port wrote was written, and nothing more.
-pub record IsCutAt (o : Outcome) (status : ℕ) (outcome : Option Outcome) (count : ℕ) (before held : Option (List ℕ)) : Type 0 where
-  pub status_is : status ≡ 70
-  pub none : outcome ≡ None
-  pub written : IsWritten before (pieces o.port) count held
+-- The call wrote this text, with the status 0 unless the sink failed.
+pub record IsAnswer (text : List ℕ) (e : CallEnd) : Type 0 where
+  pub status_is : e.status ≡ status_on e.failures 0
+  pub none : e.outcome ≡ None
+  pub written : IsWritten text e
 
--- The same of a run of the program.
-pub record IsCut (p : PlainProgram) (status : ℕ) (outcome : Option Outcome) (count : ℕ) (before held : Option (List ℕ)) : Type 0 where
+-- Memory was short before anything was written.
+pub record IsShort (e : CallEnd) : Type 0 where
+  pub status_is : e.status ≡ 70
+  pub none : e.outcome ≡ None
+  pub faultless : e.failures ≡ 0
+  pub untouched : e.held ≡ e.before
+
+-- ---- a program was run
+
+-- A run with this outcome was told: the pieces of its port were written, and then the last line. A sink that failed has a
+-- beginning of these, with the line of a sink that did not.
+pub record IsTold (o : Outcome) (e : CallEnd) : Type 0 where
+  pub outcome_is : e.outcome ≡ Some o
+  pub status_is : e.status ≡ status_on e.failures (ending_of o).status
+  pub written : IsWritten (pieces o.port ++ (ending_of o).line) e
+
+-- Memory stopped a run that had come to this outcome, or the telling of it: what its port wrote was written, and nothing
+-- more.
+pub record IsCutAt (o : Outcome) (e : CallEnd) : Type 0 where
+  pub status_is : e.status ≡ 70
+  pub none : e.outcome ≡ None
+  pub written : IsWritten (pieces o.port) e
+
+-- A run of the program to its end, which was told.
+pub record IsToldRun (p : Program) (seed steps engines : ℕ) (e : CallEnd) : Type 0 where
   pub ran : Outcome
-  pub is_going : IsPlainGoing p ran
-  pub is_cut : IsCutAt ran status outcome count before held
+  pub is_run : IsRunOf p seed steps engines ran
+  pub is_told : IsTold ran e
 
--- a run that was told
-pub record IsRun (p : PlainProgram) (status : ℕ) (outcome : Option Outcome) (count : ℕ) (before held : Option (List ℕ)) : Type 0 where
+-- A run of the program, or the telling of it, that memory stopped.
+pub record IsCut (p : Program) (steps engines : ℕ) (e : CallEnd) : Type 0 where
   pub ran : Outcome
-  pub outcome_is : outcome ≡ Some ran
-  pub is_told : IsToldRun p ran status count before held
+  pub going : Going (setup p steps) ran
+  pub workers : IsOfWorkers steps engines ran
+  pub is_cut : IsCutAt ran e
 
-abbrev pub usage_line : List ℕ
-usage_line = codes "{USAGE}\n"
-
-abbrev pub file_line : List ℕ → List ℕ → List ℕ
-file_line name why = codes "{FILE: " ++ name ++ codes ": " ++ why ++ codes "}\n"
-
-abbrev pub refused_line : List ℕ → List ℕ
-refused_line name = codes "{REFUSED: " ++ name ++ codes ":1: NotYetRead}\n"
-
--- The end of a file's text: it is no plain file, or it is that of a program, which was run, to its end unless memory was short.
-abbrev pub IsTextEnd : (name text : List ℕ) → (status : ℕ) → Option Outcome → (count : ℕ) → (before held : Option (List ℕ)) → Type 0
-IsTextEnd name text status outcome count before held =
-    IsShort status outcome count before held
-    ⊎ (IsNoPlainFile text × IsRefusal 65 (refused_line name) status outcome count before held)
-    ⊎ ((p : PlainProgram) × IsPlainFile text p × (IsRun p status outcome count before held ⊎ IsCut p status outcome count before held))
-
--- the end of what a fetch gave: a file has at most 1,048,576 bytes
-abbrev pub IsFileEnd : (name : List ℕ) → Fetched → (status : ℕ) → Option Outcome → (count : ℕ) → (before held : Option (List ℕ)) → Type 0
-IsFileEnd name fetched.Missing status outcome count before held = IsShort status outcome count before held ⊎ IsRefusal 66 (file_line name (codes "missing")) status outcome count before held
-IsFileEnd name fetched.Fault status outcome count before held = IsShort status outcome count before held ⊎ IsRefusal 66 (file_line name (codes "fault")) status outcome count before held
-IsFileEnd name (fetched.Bytes text) status outcome count before held = elim (nat_lt 1048576 (length text)) [
-  | true ↦ IsShort status outcome count before held ⊎ IsRefusal 66 (file_line name (codes "too big")) status outcome count before held
-  | false ↦ IsTextEnd name text status outcome count before held
-]
-
--- What a fetch gave, by the files where they are told, and what it did to their counts.
-pub record IsFetched (tree : Option Tree) (name : List ℕ) (faults faults_now misses misses_now : ℕ) (f : Fetched) : Type 0 where
-  pub content : IfSome tree (λ files. FetchedFrom files name 1048576 f)
-  pub fault : f ≡ fetched.Fault → Rose faults faults_now
-  pub no_fault : (f ≡ fetched.Fault → ⊥) → faults_now ≡ faults
-  pub missing : f ≡ fetched.Missing → Rose misses misses_now
-  pub not_missing : (f ≡ fetched.Missing → ⊥) → misses_now ≡ misses
-
--- The words are no command of this call, and nothing is done.
-pub record IsUsageEnd (words : List (List ℕ)) (status : ℕ) (outcome : Option Outcome) (count : ℕ) (before held : Option (List ℕ)) : Type 0 where
-  pub none : (name : List ℕ) → IsSim words name → ⊥
-  pub ending : IsShort status outcome count before held ⊎ IsRefusal 64 usage_line status outcome count before held
-
--- The words are `sim` and the name of a file, which was fetched once.
-pub record IsSimEnd (words : List (List ℕ)) (tree : Option Tree) (faults faults_now misses misses_now status : ℕ) (outcome : Option Outcome) (count : ℕ) (before held : Option (List ℕ)) : Type 0 where
-  pub name : List ℕ
-  pub sim : IsSim words name
-  pub fetched : Fetched
-  pub is_fetched : IsFetched tree name faults faults_now misses misses_now fetched
-  pub ending : IsFileEnd name fetched status outcome count before held
-
--- how the top call ends
-abbrev pub IsTopEnd : (words : List (List ℕ)) → Option Tree → (faults faults_now misses misses_now status : ℕ) → Option Outcome → (count : ℕ) → (before held : Option (List ℕ)) → Type 0
-IsTopEnd words tree faults faults_now misses misses_now status outcome count before held =
-    IsShort status outcome count before held
-    ⊎ IsUsageEnd words status outcome count before held
-    ⊎ IsSimEnd words tree faults faults_now misses misses_now status outcome count before held
+-- the program was run, unless memory was short
+abbrev pub IsRunEnd : Program → (seed steps engines : ℕ) → CallEnd → Type 0
+IsRunEnd p seed steps engines e = IsShort e ⊎ IsToldRun p seed steps engines e ⊎ IsCut p steps engines e

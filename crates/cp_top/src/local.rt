@@ -1,21 +1,18 @@
-ghost use Rattle.std.specs.Prelude.{◌≡◌, ◌⊎◌, ℕ, List, [], None, codes, IfOk};
-ghost use Rattle.cp_io.specs.declared.files.Fetched.{Fetched};
-ghost use Rattle.cp_plain.specs.declared.program.PlainProgram.{PlainProgram};
-ghost use Rattle.cp_plain.specs.Program.{IsPlainFile, IsNoPlainFile};
-ghost use Rattle.cp_top.specs.Words.{IsSim};
-ghost use Rattle.cp_top.specs.Written.{IsFetched, IsFileEnd, IsTextEnd, IsRefusal, IsShort, IsTopEnd, usage_line, file_line, refused_line};
+ghost use Rattle.std.specs.Prelude.{◌≡◌, IfOk};
+ghost use Rattle.cp_top.specs.Lines.{usage_line};
+ghost use Rattle.cp_top.specs.Written.{end_on};
+ghost use Rattle.cp_top.specs.Loading.{use_of};
+ghost use Rattle.cp_top.specs.Top.{IsCommandEnd, IsTopEnd};
 
-use crate::line::{file_line, refused_line};
-use crate::say::say;
-use crate::tell::{Told, run_and_tell, short};
-use crate::words::{Words, file_of};
+use crate::check::check;
+use crate::generated::write_generated;
+use crate::refuse::refuse;
+use crate::sim::{Settings, sim};
+use crate::told::{Told, short};
 use cp_call::Outcome;
-use cp_io::{Fetched, Files, Sink};
-use cp_plain::read_plain;
+use cp_io::{Files, Sink};
+use cp_words::{Command, Words, WordsError, command_of};
 use std::alloc::{AllocError, Global};
-
-/// The most bytes that a file may have.
-const LIMIT: u32 = 1048576;
 
 /// What a top call leaves: the status of the program, the outcome of a run, and the devices.
 #[derive(Drop)]
@@ -26,90 +23,63 @@ pub struct LocalEnd<F: Files, S: Sink> {
     pub out: S,
 }
 
-/// Writes a line, if there was memory for it, and ends with the status.
-fn refuse<S: Sink>(status: u8, line: Result<Vec<u8>, AllocError>, out: S) -> Told<S>
-    requires { S.faults out ≡ 0 }
-    ensures { (wanted : List ℕ) → IfOk line (λ l. l.items ≡ wanted) → IsShort result.status result.outcome (S.faults result.out) (S.held out) (S.held result.out) ⊎ IsRefusal status wanted result.status result.outcome (S.faults result.out) (S.held out) (S.held result.out) }
-{
-    match line {
-        Err(_) => short(out),
-        Ok(line) => {
-            let mut out = out;
-            let _whole = say(&mut out, line.as_slice());
-            Told {
-                status,
-                outcome: None,
-                out,
-            }
-        }
-    }
-}
-
-/// Runs the text of a file.
-fn run_text<S: Sink>(alloc: Global, name: &[u8], text: &[u8], out: S) -> Told<S>
-    requires { S.faults out ≡ 0 }
-    ensures { IsTextEnd name.now text.now result.status result.outcome (S.faults result.out) (S.held out) (S.held result.out) }
-{
-    match read_plain(alloc, text) {
-        Err(_) => short(out),
-        Ok(None) => refuse(65, refused_line(alloc, name), out),
-        Ok(Some(program)) => run_and_tell(alloc, program, out),
-    }
-}
-
-/// Runs what was fetched.
-fn run_fetched<S: Sink>(alloc: Global, name: &[u8], fetched: Fetched, out: S) -> Told<S>
-    requires { S.faults out ≡ 0 }
-    ensures { IsFileEnd name.now fetched result.status result.outcome (S.faults result.out) (S.held out) (S.held result.out) }
-{
-    match fetched {
-        Fetched::Missing => refuse(66, file_line(alloc, name, b"missing"), out),
-        Fetched::Fault => refuse(66, file_line(alloc, name, b"fault"), out),
-        Fetched::Bytes(text) => {
-            if text.len() > LIMIT {
-                return refuse(66, file_line(alloc, name, b"too big"), out);
-            }
-            run_text(alloc, name, text.as_slice(), out)
-        }
-    }
-}
-
-/// Fetches a file.
-fn fetch<F: Files>(files: &mut F, name: &[u8]) -> Result<Fetched, AllocError>
-    ensures { IfOk result (IsFetched (F.tree files.old) name.now (F.faults files.old) (F.faults files.new) (F.misses files.old) (F.misses files.new)) }
-{
-    files.fetch(name, LIMIT)
-}
-
 /// The line for words that are no command.
-fn usage(alloc: Global) -> Result<Vec<u8>, AllocError>
+fn usage_line(alloc: Global) -> Result<Vec<u8>, AllocError>
     ensures { IfOk result (λ line. line.items ≡ usage_line) }
 {
     Vec::from_slice(alloc, b"{USAGE}\n")
 }
 
-fn ended<F: Files, S: Sink>(told: Told<S>, files: F) -> LocalEnd<F, S>
-    ensures { result ≡ record { status = told.status; outcome = told.outcome; files = files; out = told.out } }
+/// Does a command.
+fn run_command<F: Files, S: Sink>(alloc: Global, command: Command, files: &mut F, out: S) -> Told<S>
+    requires { S.faults out ≡ 0 }
+    ensures ending { IsCommandEnd command (use_of F.tree F.faults F.misses files.old files.new) (end_on S.held S.faults out result.out result.status result.outcome) }
+    ensures tree { F.tree files.new ≡ F.tree files.old }
 {
-    let Told {
-        status,
-        outcome,
-        out,
-    } = told;
-    LocalEnd {
-        status,
-        outcome,
-        files,
-        out,
+    match command {
+        Command::Check { file } => check(alloc, files, file.as_slice(), out),
+        Command::Sim {
+            file,
+            steps,
+            engines,
+            seed,
+        } => {
+            let settings = Settings {
+                steps,
+                engines,
+                seed,
+            };
+            sim(alloc, files, file.as_slice(), settings, out)
+        }
+        Command::Gen { items } => write_generated(alloc, items, out),
     }
 }
 
-/// Does what the words after the program's name say, with these files and this sink, which has not failed yet.
+/// Does what the words after the program's name say, if they are a command of this call.
+fn run_words<F: Files, S: Sink>(alloc: Global, words: &Words, files: &mut F, out: S) -> Told<S>
+    requires { S.faults out ≡ 0 }
+    ensures ending { IsTopEnd words.now (use_of F.tree F.faults F.misses files.old files.new) (end_on S.held S.faults out result.out result.status result.outcome) }
+    ensures tree { F.tree files.new ≡ F.tree files.old }
+{
+    match command_of(alloc, words) {
+        Err(WordsError::NoMemory) => short(out),
+        Err(WordsError::Usage) => refuse(64, usage_line(alloc), out),
+        Ok(command) => run_command(alloc, command, files, out),
+    }
+}
+
+/// Does what the words after the program's name say, with these files and this sink, which has not failed yet: `check FILE`,
+/// `sim FILE` and `gen N`. It waits for nobody.
 ///
-/// The words `sim FILE` run a plain file on one engine with a budget of 100,000 steps; every other list of words ends with
-/// 64 and `{USAGE}`. A file that cannot be fetched or has more than 1,048,576 bytes ends with 66, and one that is no plain
-/// file with 65. A run ends with 0, or with 3 where goal 1 is suspended, and with 74 where the sink failed. 70 stands for
-/// want of memory.
+/// The status is that of the first row which applies, with its line.
+/// - 64, `{USAGE}`: the words are no command.
+/// - 66, `{FILE: NAME: WHY}`: a file is missing, too big (over 1,048,576 bytes) or could not be read.
+/// - 65, `{REFUSED: FILE:LINE: WHY}`: the program is refused.
+/// - 70, without a line: memory was short.
+/// - 74, without a line: the sink failed.
+/// - For `sim` 4, `{STEPS: goal 1}`: goal 1 used up its steps; 3, `{SUSPENDED: goal 1 on NAME}`: it has not ended; 2,
+///   `{UNCAUGHT: BALL}`: it ended by a ball; 1, `{FAILED: goal 1}`: it failed.
+/// - 0: for `check` with `{ACCEPTED: M modules, C clauses, S shared}`.
 pub fn local_top<F: Files, S: Sink>(
     alloc: Global,
     words: &Words,
@@ -117,14 +87,19 @@ pub fn local_top<F: Files, S: Sink>(
     out: S,
 ) -> LocalEnd<F, S>
     requires { S.faults out ≡ 0 }
-    ensures { IsTopEnd words.now (F.tree files) (F.faults files) (F.faults result.files) (F.misses files) (F.misses result.files) result.status result.outcome (S.faults result.out) (S.held out) (S.held result.out) }
+    ensures ending { IsTopEnd words.now (use_of F.tree F.faults F.misses files result.files) (end_on S.held S.faults out result.out result.status result.outcome) }
+    ensures tree { F.tree result.files ≡ F.tree files }
 {
     let mut files = files;
-    match file_of(words) {
-        None => ended(refuse(64, usage(alloc), out), files),
-        Some(name) => match fetch(&mut files, name) {
-            Err(_) => ended(short(out), files),
-            Ok(fetched) => ended(run_fetched(alloc, name, fetched, out), files),
-        },
+    let Told {
+        status,
+        outcome,
+        out,
+    } = run_words(alloc, words, &mut files, out);
+    LocalEnd {
+        status,
+        outcome,
+        files,
+        out,
     }
 }

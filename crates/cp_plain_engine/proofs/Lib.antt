@@ -1,9 +1,0 @@
-pub mod Patterns
-pub mod Unifying
-pub mod Running
-pub mod Finding
-pub mod Results
-pub mod Asking
-pub mod Renaming
-pub mod Seeing
-pub mod Declared

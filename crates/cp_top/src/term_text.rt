@@ -1,0 +1,31 @@
+ghost use Rattle.std.specs.Prelude.{◌≡◌, true, IfOk};
+ghost use Rattle.cp_term.specs.Preorder.{is_terms};
+ghost use Rattle.cp_term.specs.Numbering.{is_numbered_from};
+ghost use Rattle.cp_ops.specs.Standard.{standard};
+ghost use Rattle.cp_ops.specs.Text.{text_of, quoting};
+
+use cp_io::Bytes;
+use cp_ops::OpTable;
+use cp_term::{Cells, Term};
+use cp_write::writeq_text;
+use std::alloc::{AllocError, Global};
+
+/// The term with these cells.
+pub(crate) fn term_with(cells: Cells) -> Term
+    requires term { is_terms 1 cells ≡ true }
+    requires numbered { is_numbered_from 0 cells ≡ true }
+    ensures { result ≡ cells }
+{
+    match Term::from_cells(cells) {
+        Ok(term) => term,
+        Err(_) => unreachable!(),
+    }
+}
+
+/// The text of a term under the standard operators.
+pub(crate) fn standard_text(alloc: Global, term: &Term) -> Result<Bytes, AllocError>
+    ensures { IfOk result (λ text. text ≡ text_of quoting standard term.now) }
+{
+    let operators = OpTable::standard(alloc)?;
+    writeq_text(alloc, term, &operators)
+}
