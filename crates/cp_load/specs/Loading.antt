@@ -11,7 +11,7 @@ use Rattle.cp_module.specs.Parts.{Part}
 use Rattle.cp_link.specs.Modules.{said, shared_in}
 use Rattle.cp_link.specs.Kept.{fault_of}
 use Rattle.cp_link.specs.Refusals as refusals
-use Rattle.cp_link.specs.Answers.{Assembles}
+use Rattle.cp_assemble.specs.Answers.{Assembles}
 use Rattle.cp_link.specs.Lawful.{IsRunnable}
 use Rattle.cp_load.specs.declared.error.LoadError.{LoadError}
 use Rattle.cp_load.specs.declared.error.LoadError.TheVariants as error

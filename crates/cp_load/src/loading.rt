@@ -10,9 +10,9 @@ use crate::main_goal::main_refusal;
 use crate::open::are_open;
 use crate::operators::operators_of;
 use crate::prelude::prelude;
+use cp_assemble::{LinkError, ModuleParts, link};
 use cp_code::Program;
 use cp_io::Files;
-use cp_link::{LinkError, ModuleParts, link};
 use cp_module::{Loaded, ModulePart};
 use std::alloc::Global;
 
