@@ -1,0 +1,4 @@
+pub mod Heads
+pub mod Objects
+pub mod Safe
+pub mod Outcomes

@@ -1,0 +1,46 @@
+-- The shared objects of a run before anybody has asked them.
+use Rattle.std.proofs.Common.{◌≡◌, ℕ, zero, suc, ◌+◌, List, [], ◌∷◌, ◌++◌, length, refl, sym, ◌∙◌, ap, arith}
+use Rattle.std.specs.Prelude.{map, slice_get, false}
+use Rattle.cp_term.specs.declared.cell.Cell.{Cell}
+use Rattle.cp_term.specs.declared.pred_name.PredName.{PredName}
+use Rattle.cp_call.specs.Setup.{SharedPred, object_of}
+use Rattle.cp_call.specs.Sound.{Object, objects_with}
+use Rattle.cp_code.specs.declared.program.Program.{Program}
+use Rattle.cp_code.specs.Programs.{objects_of as count_of}
+use Rattle.cp_hall.specs.Hall.{HallObject, objects_of, history_at}
+use Rattle.cp_simulate.specs.Runs.{objects, unasked}
+
+-- the two lists of goals and behind them the predicates
+abbrev pub begun_with : List (List Cell) → (PredName → SharedPred) → List PredName → List HallObject
+begun_with goals shared names = map unasked (objects_with goals []) ++ map (λ n. unasked (object_of (shared n))) names
+
+preds_are : (shared : PredName → SharedPred) (names : List PredName) → objects_of (map (λ n. unasked (object_of (shared n))) names) ≡ map object_of (map shared names)
+preds_are shared [] = refl
+preds_are shared (n ∷ names) = ap (λ os. object_of (shared n) ∷ os) (preds_are shared names)
+
+objects_begin : (goals : List (List Cell)) (shared : PredName → SharedPred) (names : List PredName) → objects_of (begun_with goals shared names) ≡ objects_with goals (map object_of (map shared names))
+objects_begin goals shared names = ap (objects_with goals) (preds_are shared names)
+
+preds_unasked : (shared : PredName → SharedPred) (names : List PredName) (p : ℕ) → history_at (map (λ n. unasked (object_of (shared n))) names) p ≡ []
+preds_unasked shared [] p = refl
+preds_unasked shared (n ∷ names) zero = refl
+preds_unasked shared (n ∷ names) (suc p) = preds_unasked shared names p
+
+unasked_begin : (goals : List (List Cell)) (shared : PredName → SharedPred) (names : List PredName) (p : ℕ) → history_at (begun_with goals shared names) p ≡ []
+unasked_begin goals shared names zero = refl
+unasked_begin goals shared names (suc zero) = refl
+unasked_begin goals shared names (suc (suc p)) = preds_unasked shared names p
+
+pub objects_are : (goals : List (List Cell)) (shared : PredName → SharedPred) (names : List PredName) (hall : List HallObject) → hall ≡ begun_with goals shared names → objects_of hall ≡ objects_with goals (map object_of (map shared names))
+objects_are goals shared names hall e = ap objects_of e ∙ objects_begin goals shared names
+
+pub none_asked : (goals : List (List Cell)) (shared : PredName → SharedPred) (names : List PredName) (hall : List HallObject) → hall ≡ begun_with goals shared names → (p : ℕ) → history_at hall p ≡ []
+none_asked goals shared names hall e p = ap (λ h. history_at h p) e ∙ unasked_begin goals shared names p
+
+length_map : {A B : Type 0} (f : A → B) (xs : List A) → length (map f xs) ≡ length xs
+length_map f [] = refl
+length_map f (x ∷ xs) = ap suc (length_map f xs)
+
+-- the program has as many as it counts
+pub counted : (p : Program) (os : List Object) → os ≡ objects p → count_of p ≡ length os
+counted p os e = ?
