@@ -1,4 +1,5 @@
 pub mod Heads
+pub mod Mains
 pub mod Objects
 pub mod Safe
 pub mod Outcomes

@@ -3,10 +3,10 @@ use Rattle.std.proofs.Common.{◌≡◌, ℕ, zero, suc, ◌+◌, List, [], ◌�
 use Rattle.std.specs.Prelude.{map, slice_get, false}
 use Rattle.cp_term.specs.declared.cell.Cell.{Cell}
 use Rattle.cp_term.specs.declared.pred_name.PredName.{PredName}
-use Rattle.cp_call.specs.Setup.{SharedPred, object_of}
+use Rattle.cp_call.specs.Setup.{SharedPred, object_of, opening_goals}
 use Rattle.cp_call.specs.Sound.{Object, objects_with}
 use Rattle.cp_code.specs.declared.program.Program.{Program}
-use Rattle.cp_code.specs.Programs.{objects_of as count_of}
+use Rattle.cp_code.specs.Programs.{shared_pred, objects_of as count_of}
 use Rattle.cp_hall.specs.Hall.{HallObject, objects_of, history_at}
 use Rattle.cp_simulate.specs.Runs.{objects, unasked}
 
@@ -41,6 +41,12 @@ length_map : {A B : Type 0} (f : A → B) (xs : List A) → length (map f xs) �
 length_map f [] = refl
 length_map f (x ∷ xs) = ap suc (length_map f xs)
 
--- the program has as many as it counts
+count_with : (goals : List (List Cell)) (preds : List Object) → length (objects_with goals preds) ≡ 2 + length preds
+count_with goals preds = omega arith
+
+-- there are as many as the program counts
 pub counted : (p : Program) (os : List Object) → os ≡ objects p → count_of p ≡ length os
-counted p os e = ?
+counted p os e = sym (
+    ap length e
+    ∙ (count_with (opening_goals p.first false) (map object_of (map (shared_pred p.preds) p.shared))
+    ∙ ap (λ n. 2 + n) (length_map object_of (map (shared_pred p.preds) p.shared) ∙ length_map (shared_pred p.preds) p.shared)))

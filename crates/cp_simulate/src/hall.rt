@@ -1,7 +1,7 @@
 ghost use Rattle.std.specs.Prelude.{◌≡◌, ◌++◌, [], ◌∷◌, ℕ, false, find, map, IfOk, OnOk};
 ghost use Rattle.std.specs.Option.{option_copied};
 ghost use Rattle.cp_term.specs.PredNameEq.{pred_name_eq};
-ghost use Rattle.cp_call.specs.Setup.{main_of, object_of, kind_of, opening_goals};
+ghost use Rattle.cp_call.specs.Setup.{object_of, kind_of, opening_goals};
 ghost use Rattle.cp_call.specs.Sound.{objects_with};
 ghost use Rattle.cp_code.specs.declared.pred_info.PredInfo.{PredInfo as Info};
 ghost use Rattle.cp_code.specs.Programs.{is_data, shared_pred};
@@ -9,34 +9,12 @@ ghost use Rattle.cp_hall.specs.Hall.{objects_of, history_at};
 ghost use Rattle.cp_simulate.specs.Runs.{objects, unasked};
 
 use crate::fact::heads_of;
+use crate::main_goal::main_goal;
 use cp_call::{ObjectKind, ObjectName};
 use cp_code::{PredInfo, PredKind, Program};
 use cp_hall::PlainHall;
-use cp_term::{Cell, Cells, Name, PredName, Term, Terms};
+use cp_term::{Name, PredName, Terms};
 use std::alloc::{AllocError, Global};
-
-fn name(alloc: Global, text: &[u8]) -> Result<Name, AllocError>
-    ensures { IfOk result (λ name. name ≡ text.now) }
-{
-    match Name::of(alloc, text) {
-        Ok(name) => Ok(name),
-        Err(_) => Err(AllocError),
-    }
-}
-
-/// `M:main`.
-fn main_goal(alloc: Global, module_name: &Name) -> Result<Term, AllocError>
-    ensures { IfOk result (λ goal. goal ≡ main_of module_name.now) }
-{
-    let mut cells = Cells::new(alloc);
-    cells.push(Cell::Func(name(alloc, b":")?, 2))?;
-    cells.push(Cell::Atom(module_name.clone()?))?;
-    cells.push(Cell::Atom(name(alloc, b"main")?))?;
-    match Term::from_cells(cells) {
-        Ok(goal) => Ok(goal),
-        Err(_) => Err(AllocError),
-    }
-}
 
 /// The two lists of goals, with `M:main` to be done.
 fn lists_of(alloc: Global, module_name: &Name) -> Result<PlainHall, AllocError>

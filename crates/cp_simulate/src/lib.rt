@@ -4,6 +4,7 @@
 mod fact;
 mod hall;
 mod laws;
+mod main_goal;
 mod run;
 
 pub use hall::plain_hall;
