@@ -5,6 +5,7 @@ use Rattle.cp_term.specs.declared.cell.Cell.{Cell}
 use Rattle.cp_term.specs.declared.pred_name.PredName.{PredName}
 use Rattle.cp_call.specs.Setup.{SharedPred, object_of, opening_goals}
 use Rattle.cp_call.specs.Sound.{Object, objects_with}
+use Rattle.cp_code.specs.declared.pred_info.PredInfo.{PredInfo}
 use Rattle.cp_code.specs.declared.program.Program.{Program}
 use Rattle.cp_code.specs.Programs.{shared_pred, objects_of as count_of}
 use Rattle.cp_hall.specs.Hall.{HallObject, objects_of, history_at}
@@ -31,11 +32,25 @@ unasked_begin goals shared names zero = refl
 unasked_begin goals shared names (suc zero) = refl
 unasked_begin goals shared names (suc (suc p)) = preds_unasked shared names p
 
-pub objects_are : (goals : List (List Cell)) (shared : PredName → SharedPred) (names : List PredName) (hall : List HallObject) → hall ≡ begun_with goals shared names → objects_of hall ≡ objects_with goals (map object_of (map shared names))
-objects_are goals shared names hall e = ap objects_of e ∙ objects_begin goals shared names
+-- The two lists of goals were made, and the shared predicates were added.
+pub record IsMade (p : Program) (preds : List PredInfo) (names : List PredName) (lists hall : List HallObject) : Type 0 where
+  pub lists_are : lists ≡ map unasked (objects_with (opening_goals p.first false) [])
+  pub preds_are : preds ≡ p.preds
+  pub names_are : names ≡ p.shared
+  pub hall_is : hall ≡ lists ++ map (λ n. unasked (object_of (shared_pred preds n))) names
 
-pub none_asked : (goals : List (List Cell)) (shared : PredName → SharedPred) (names : List PredName) (hall : List HallObject) → hall ≡ begun_with goals shared names → (p : ℕ) → history_at hall p ≡ []
-none_asked goals shared names hall e p = ap (λ h. history_at h p) e ∙ unasked_begin goals shared names p
+made_is : (p : Program) (preds : List PredInfo) (names : List PredName) (lists hall : List HallObject) → IsMade p preds names lists hall → hall ≡ begun_with (opening_goals p.first false) (shared_pred p.preds) p.shared
+made_is p preds names lists hall made =
+    made.hall_is
+    ∙ (ap (λ xs. xs ++ map (λ n. unasked (object_of (shared_pred preds n))) names) made.lists_are
+    ∙ (ap (λ ps. map unasked (objects_with (opening_goals p.first false) []) ++ map (λ n. unasked (object_of (shared_pred ps n))) names) made.preds_are
+    ∙ ap (begun_with (opening_goals p.first false) (shared_pred p.preds)) made.names_are))
+
+pub objects_are : (p : Program) (preds : List PredInfo) (names : List PredName) (lists hall : List HallObject) → IsMade p preds names lists hall → objects_of hall ≡ objects p
+objects_are p preds names lists hall made = ap objects_of (made_is p preds names lists hall made) ∙ objects_begin (opening_goals p.first false) (shared_pred p.preds) p.shared
+
+pub none_asked : (p : Program) (preds : List PredInfo) (names : List PredName) (lists hall : List HallObject) → IsMade p preds names lists hall → (q : ℕ) → history_at hall q ≡ []
+none_asked p preds names lists hall made q = ap (λ h. history_at h q) (made_is p preds names lists hall made) ∙ unasked_begin (opening_goals p.first false) (shared_pred p.preds) p.shared q
 
 length_map : {A B : Type 0} (f : A → B) (xs : List A) → length (map f xs) ≡ length xs
 length_map f [] = refl
