@@ -1,5 +1,5 @@
 -- The head of a rule, as a part of its cells.
-use Rattle.std.proofs.Common.{◌≡◌, ℕ, zero, suc, ◌+◌, ◌-◌, ◌≤◌, List, [], ◌∷◌, length, refl, ap, ◌∙◌, subst, sym, take, drop, Bool, true, false, cond, ◌&&◌, nat_eq, nat_lt, arith}
+use Rattle.std.proofs.Common.{◌≡◌, ℕ, zero, suc, ◌+◌, ◌-◌, List, [], ◌∷◌, length, refl, ap, ◌∙◌, subst, sym, take, drop, true, false, cond, ◌&&◌, nat_eq, nat_lt, arith}
 use Rattle.std.specs.Prelude.{Result, Ok, Err}
 use Rattle.std.proofs.lemmas.List.{take_all}
 use Rattle.std.proofs.lemmas.Bool.{and_parts, and_from}
@@ -28,11 +28,11 @@ numbered_take (suc n) v (Atom a ∷ cells) h = numbered_take n v cells h
 numbered_take (suc n) v (Func f k ∷ cells) h = numbered_take (k + n) v cells h
 numbered_take (suc n) v (Var u ∷ cells) h =
     (elim (nat_lt u v) as (λ b. cond b (is_numbered_from v cells) (nat_eq u v && is_numbered_from (suc v) cells) ≡ true
-        → cond b (is_numbered_from v (take_terms n cells)) (nat_eq u v && is_numbered_from (suc v) (take_terms n cells)) ≡ true) [
-      true ↦ λ k. numbered_take n v cells k
-    | false ↦ λ k.
-        let parts = and_parts (nat_eq u v) (is_numbered_from (suc v) cells) k in
-        and_from (nat_eq u v) (is_numbered_from (suc v) (take_terms n cells)) parts.0 (numbered_take n (suc v) cells parts.1)
+    → cond b (is_numbered_from v (take_terms n cells)) (nat_eq u v && is_numbered_from (suc v) (take_terms n cells)) ≡ true) [
+      | true ↦ λ k. numbered_take n v cells k
+      | false ↦ λ k.
+          let parts = and_parts (nat_eq u v) (is_numbered_from (suc v) cells) k in
+          and_from (nat_eq u v) (is_numbered_from (suc v) (take_terms n cells)) parts.0 (numbered_take n (suc v) cells parts.1)
     ]) h
 
 is_term : (cells : List Cell) → is_terms 1 cells ≡ true → is_numbered_from 0 cells ≡ true → term_of cells ≡ Ok cells

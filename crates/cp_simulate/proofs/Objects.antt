@@ -1,6 +1,6 @@
 -- The shared objects of a run before anybody has asked them.
 use Rattle.std.proofs.Common.{◌≡◌, ℕ, zero, suc, ◌+◌, List, [], ◌∷◌, ◌++◌, length, refl, sym, ◌∙◌, ap, arith}
-use Rattle.std.specs.Prelude.{map, slice_get, false}
+use Rattle.std.specs.Prelude.{map, false}
 use Rattle.cp_term.specs.declared.cell.Cell.{Cell}
 use Rattle.cp_term.specs.declared.pred_name.PredName.{PredName}
 use Rattle.cp_call.specs.Setup.{SharedPred, object_of, opening_goals}

@@ -1,21 +1,19 @@
 -- Outcomes of runs of workers.
-use Rattle.std.proofs.Common.{◌≡◌, ℕ, zero, suc, ◌+◌, ◌++◌, ◌≤◌, List, [], ◌∷◌, length, refl, sym, ◌∙◌, ap, subst, Bool, true, false, Option, Some, None, arith, lit≤}
-use Rattle.std.specs.Prelude.{slice_get, IfSome, ◌||◌}
+use Rattle.std.proofs.Common.{◌≡◌, ℕ, zero, suc, ◌+◌, ◌++◌, List, [], ◌∷◌, length, refl, sym, ◌∙◌, ap, subst, false, Option, Some, None, arith, lit≤}
+use Rattle.std.specs.Prelude.{slice_get, ◌||◌}
 use Rattle.std.specs.List.{list_any}
 use Rattle.std.proofs.lemmas.List.{append-nil}
 use Rattle.cp_call.specs.declared.outcome.Stand.TheVariants as stand
 use Rattle.cp_call.specs.declared.outcome.EngineEnd.{EngineEnd}
 use Rattle.cp_call.specs.declared.outcome.Outcome.{Outcome}
-use Rattle.cp_call.specs.Life.{Rule}
 use Rattle.cp_call.specs.Progress.{beginning, new_engines}
 use Rattle.cp_call.specs.Setup.{IsSoundRun, setup_of}
-use Rattle.cp_call.specs.Sound.{Object, Setup, Going, Sound, is_lane, has_lane}
+use Rattle.cp_call.specs.Sound.{Setup, Going, Sound, is_lane, has_lane}
 use Rattle.cp_out.specs.Port.{Records, GrewTo}
 use Rattle.cp_code.specs.declared.program.Program.{Program}
 use Rattle.cp_code.specs.Programs.{parts_of}
-use Rattle.cp_schedule.specs.Record.{workers_setup}
 use Rattle.cp_schedule.specs.Ended.{StandsParked, IsOfWorkers, HasRunTo}
-use Rattle.cp_simulate.specs.Runs.{rule, setup, objects, IsRunOf}
+use Rattle.cp_simulate.specs.Runs.{rule, IsRunOf}
 
 -- ---- a run that begins
 
@@ -52,28 +50,6 @@ records_none held faults sink = record { grew = grew_none (held sink); stays_fai
 pub has_begun : {S : Type 0} (held : S → Option (List ℕ)) (faults : S → ℕ) (s : Setup) (steps count : ℕ) (sink : S)
     → Going s (beginning s steps count) → (o : Outcome) × HasRunTo held faults s steps count sink sink o
 has_begun held faults s steps count sink going = (beginning s steps count, record { going = going; workers = workers_begin s steps count; records = records_none held faults sink })
-
--- ---- a run that was simulated
-
-if_both : {X : Type 0} (r : Option X) {A B C : X → Type 0} → ((x : X) → A x → B x → C x) → IfSome r A → IfSome r B → IfSome r C
-if_both (Some x) f a b = f x a b
-if_both None f a b = tt
-
--- its outcome, over these objects, which are the program's, and of so many workers
-pub is_run : (p : Program) (seed steps engines count : ℕ) (os : List Object) (r : Option Outcome) → os ≡ objects p → count ≡ engines
-    → IfSome r (Sound (workers_setup (rule p steps) os)) → IfSome r (IsOfWorkers steps count) → IfSome r (IsRunOf p seed steps engines)
-is_run p seed steps engines count os r same counts sound workers = if_both r (λ o s w. record {
-  sound = subst (λ x. Sound (workers_setup (rule p steps) x) o) same s;
-  workers = subst (λ n. IsOfWorkers steps n o) counts w;
-}) sound workers
-
-pub has_run : {S : Type 0} (held : S → Option (List ℕ)) (faults : S → ℕ) (p : Program) (steps engines count : ℕ) (os : List Object) (first sink : S) → os ≡ objects p → count ≡ engines
-    → ((o : Outcome) × HasRunTo held faults (workers_setup (rule p steps) os) steps count first sink o) → (o : Outcome) × HasRunTo held faults (setup p steps) steps engines first sink o
-has_run held faults p steps engines count os first sink same counts ran = (
-  ran.0,
-  subst (λ n. HasRunTo held faults (setup p steps) steps n first sink ran.0) counts
-  (subst (λ x. HasRunTo held faults (workers_setup (rule p steps) x) steps count first sink ran.0) same ran.1),
-)
 
 -- ---- none of its engines is a lane
 
