@@ -5,7 +5,7 @@ use Rattle.cp_top.proofs.sim.run.Goals as goal
 pub returns-in-None : goal.returns-in-None
 returns-in-None g c =
     short_run g.S.Sink.held g.S.Sink.faults c.args.code.now.program c.args.seed c.args.code.now.steps c.args.engines c.args.out c.simulate-outcome.result.sink c.short.result.out c.short.result.status c.short.result.outcome
-    c.simulate-outcome.ensures.ran c.requires.faultless c.short.ensures.status c.short.ensures.none c.short.ensures.out
+    (search rules) c.requires.faultless c.short.ensures.status c.short.ensures.none c.short.ensures.out
 
 pub returns-in-Some : goal.returns-in-Some
 returns-in-Some g c =
