@@ -22,7 +22,10 @@ pub struct Need {
     pub main: bool,
 }
 
-/// The program of the file of this name and of the files that it imports, directly or not, with the prelude.
+/// The program of the file of this name and of the files that it imports, directly or not, with the prelude; or else the first
+/// refusal in them, or the name of the file that is missing, that has more than 1,048,576 bytes or that could not be
+/// fetched. A program has at most 64 files, and each is fetched once. Where nothing is refused it answers want of memory until
+/// `cp_link::link` makes a program.
 pub fn load<F: Files>(
     alloc: Global,
     files: &mut F,
