@@ -2,7 +2,7 @@ ghost use Rattle.std.specs.Prelude.{◌≡◌, ◌∷◌, ◌||◌, [], None, So
 ghost use Rattle.std.specs.List.{list_any};
 ghost use Rattle.cp_code.specs.Clauses.{is_neck, head_of};
 ghost use Rattle.cp_declaration.specs.Declarations.{declaration};
-ghost use Rattle.cp_module.specs.Causes.{same, is_in, headed, shares, shares_by, is_clause_of, is_shared, is_defined};
+ghost use Rattle.cp_module.specs.Causes.{pred_of, same, is_in, headed, shares, shares_by, is_clause_of, is_shared, is_defined};
 
 use cp_declaration::{Declaration, Indicator, Indicators, declaration_of, is_declaration};
 use cp_read::ReadClause;
@@ -75,7 +75,23 @@ fn shares_by(alloc: Global, clause: &ReadClause) -> Result<Indicators, AllocErro
     }
 }
 
-fn is_clause_of(clause: &ReadClause, pred: &Indicator) -> bool
+/// The predicate that a clause is of. A declaration is of none.
+pub(crate) fn pred_of(clause: &ReadClause) -> Result<Option<Indicator>, AllocError>
+    ensures { IfOk result (λ pred. pred ≡ pred_of clause.now) }
+{
+    if is_declaration(&clause.term) {
+        return Ok(None);
+    }
+    match head_of(clause.term.cells()) {
+        Some(head) => Ok(Some(Indicator {
+            name: head.name.clone()?,
+            arity: head.arity,
+        })),
+        None => Ok(None),
+    }
+}
+
+pub(crate) fn is_clause_of(clause: &ReadClause, pred: &Indicator) -> bool
     ensures { result ≡ is_clause_of pred.now clause.now }
 {
     if is_declaration(&clause.term) {
@@ -127,7 +143,7 @@ fn is_neck(cell: &Cell) -> bool
     }
 }
 
-fn is_in(preds: &[Indicator], pred: &Indicator) -> bool
+pub(crate) fn is_in(preds: &[Indicator], pred: &Indicator) -> bool
     ensures { result ≡ is_in preds.now pred.now }
 {
     preds.iter().any(|other| same(pred, other))
