@@ -6,4 +6,3 @@ pub mod Refusals
 pub mod Kept
 pub mod Linked
 pub mod Lawful
-pub mod Answers

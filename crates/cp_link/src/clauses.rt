@@ -22,14 +22,14 @@ pub(crate) fn same(pred: &Indicator, other: &Indicator) -> bool
     pred.name.bytes() == other.name.bytes() && pred.arity == other.arity
 }
 
-pub(crate) fn is_in(preds: &[Indicator], pred: &Indicator) -> bool
+pub fn is_in(preds: &[Indicator], pred: &Indicator) -> bool
     ensures { result ≡ is_in preds.now pred.now }
 {
     preds.iter().any(|other| same(pred, other))
 }
 
 /// What a clause says, if it is a declaration.
-pub(crate) fn said(alloc: Global, clause: &ReadClause) -> Result<Option<Declaration>, AllocError>
+pub fn said(alloc: Global, clause: &ReadClause) -> Result<Option<Declaration>, AllocError>
     ensures { IfOk result (λ found. found ≡ said clause.now) }
 {
     if is_declaration(&clause.term) {
@@ -98,7 +98,7 @@ pub(crate) fn pred_of(clause: &ReadClause) -> Result<Option<Indicator>, AllocErr
     }
 }
 
-pub(crate) fn is_clause_of(clause: &ReadClause, pred: &Indicator) -> bool
+pub fn is_clause_of(clause: &ReadClause, pred: &Indicator) -> bool
     ensures { result ≡ is_clause_of pred.now clause.now }
 {
     if is_declaration(&clause.term) {
@@ -151,7 +151,7 @@ fn is_neck(cell: &Cell) -> bool
 }
 
 /// Whether one of the clauses declares a predicate to be shared.
-pub(crate) fn is_shared(
+pub fn is_shared(
     alloc: Global,
     clauses: &[ReadClause],
     pred: &Indicator,
@@ -168,7 +168,7 @@ pub(crate) fn is_shared(
 }
 
 /// The predicates that clauses declare to be shared, in the order of their declarations.
-pub(crate) fn shared_in(alloc: Global, clauses: &[ReadClause]) -> Result<Indicators, AllocError>
+pub fn shared_in(alloc: Global, clauses: &[ReadClause]) -> Result<Indicators, AllocError>
     ensures { IfOk result (λ preds. preds ≡ shared_in clauses.now) }
 {
     let mut all = Indicators::new(alloc);

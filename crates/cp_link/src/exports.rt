@@ -11,7 +11,7 @@ use cp_read::ReadClause;
 use std::alloc::{AllocError, Global};
 
 /// The predicates that the clauses of a file define, in the order in which they first name them.
-pub(crate) fn own_preds(alloc: Global, clauses: &[ReadClause]) -> Result<Indicators, AllocError>
+pub fn own_preds(alloc: Global, clauses: &[ReadClause]) -> Result<Indicators, AllocError>
     ensures { IfOk result (λ preds. preds ≡ own_preds clauses.now) }
 {
     let mut all = Indicators::new(alloc);
@@ -66,7 +66,7 @@ fn push_new(all: &mut Indicators, pred: Indicator) -> Result<(), AllocError>
 }
 
 /// What a file exports: what its header names, or else every predicate that it defines.
-pub(crate) fn exports_of(alloc: Global, part: &ModulePart) -> Result<Indicators, AllocError>
+pub fn exports_of(alloc: Global, part: &ModulePart) -> Result<Indicators, AllocError>
     ensures { IfOk result (λ preds. preds ≡ exports_of part.now) }
 {
     match header_exports(alloc, part.clauses().as_slice())? {

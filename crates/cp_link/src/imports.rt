@@ -84,7 +84,7 @@ fn push_from(
 }
 
 /// Adds these predicates of a module.
-pub(crate) fn push_named(
+pub fn push_named(
     all: &mut PredNames,
     module_name: &Name,
     preds: &[Indicator],
@@ -98,7 +98,7 @@ pub(crate) fn push_named(
 }
 
 /// What clauses of a file import, in their order.
-pub(crate) fn imports_in(
+pub fn imports_in(
     alloc: Global,
     parts: &[ModulePart],
     file: &[u8],
@@ -114,7 +114,7 @@ pub(crate) fn imports_in(
 }
 
 /// The predicates of active modules that clauses of a file use, in their order.
-pub(crate) fn active_in(alloc: Global, clauses: &[ReadClause]) -> Result<PredNames, AllocError>
+pub fn active_in(alloc: Global, clauses: &[ReadClause]) -> Result<PredNames, AllocError>
     ensures { IfOk result (λ preds. preds ≡ active_in clauses.now) }
 {
     let mut all = PredNames::new(alloc);

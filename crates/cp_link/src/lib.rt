@@ -1,4 +1,4 @@
-//! The files of a program together: what is refused in them, and the program that they make.
+//! The files of a program together: what is refused in them, and what each of them says of its module.
 #![tactic(auto)]
 
 mod clauses;
@@ -6,11 +6,14 @@ mod exported;
 mod exports;
 mod imports;
 mod kept;
-mod linking;
 mod names;
 mod refusals;
 mod spot;
 mod whole;
 mod written;
 
-pub use linking::{LinkError, ModuleParts, link};
+pub use clauses::{is_clause_of, is_in, is_shared, said, shared_in};
+pub use exports::{exports_of, own_preds};
+pub use imports::{active_in, imports_in, push_named};
+pub use names::{in_module, name_of};
+pub use whole::{refusal_in, rules_of};

@@ -19,7 +19,7 @@ pub(crate) fn copy_of(pred: &Indicator) -> Result<Indicator, AllocError>
 }
 
 /// A predicate of a module.
-pub(crate) fn in_module(module_name: &Name, pred: &Indicator) -> Result<PredName, AllocError>
+pub fn in_module(module_name: &Name, pred: &Indicator) -> Result<PredName, AllocError>
     ensures { IfOk result (λ name. name ≡ in_module module_name.now pred.now) }
 {
     Ok(PredName {
@@ -30,7 +30,7 @@ pub(crate) fn in_module(module_name: &Name, pred: &Indicator) -> Result<PredName
 }
 
 /// The name of a file's module: that of the header, or else the base name of the file.
-pub(crate) fn name_of(alloc: Global, part: &ModulePart) -> Result<Name, AllocError>
+pub fn name_of(alloc: Global, part: &ModulePart) -> Result<Name, AllocError>
     ensures { IfOk result (λ name. name ≡ name_of part.now) }
 {
     let base = base_of(part.file());

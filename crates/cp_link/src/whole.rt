@@ -21,7 +21,7 @@ use cp_read::ReadClause;
 use std::alloc::{AllocError, Global};
 
 /// What the files of a program are refused for together, if they are.
-pub(crate) fn refusal_in(alloc: Global, parts: &[ModulePart]) -> Result<Option<Refusal>, AllocError>
+pub fn refusal_in(alloc: Global, parts: &[ModulePart]) -> Result<Option<Refusal>, AllocError>
     ensures { IfOk result (λ refusal. option_map fault_of refusal ≡ refused parts.now) }
 {
     let all = all_exports(alloc, parts)?;
@@ -120,7 +120,7 @@ fn begin(
 }
 
 /// The number of clauses of files that are no declarations.
-fn rules_of(parts: &[ModulePart]) -> u64
+pub fn rules_of(parts: &[ModulePart]) -> u64
     ensures { result ≡ counted (rules_of_parts parts.now) }
 {
     let mut rules: u64 = 0;

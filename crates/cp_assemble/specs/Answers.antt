@@ -2,8 +2,8 @@
 use Rattle.std.specs.Prelude.{◌≡◌, List, [], Some, None, Result, Ok, Err}
 use Rattle.cp_code.specs.declared.program.Program.{Program}
 use Rattle.cp_module.specs.Parts.{Part}
-use Rattle.cp_link.specs.declared.linking.LinkError.{LinkError}
-use Rattle.cp_link.specs.declared.linking.LinkError.TheVariants as error
+use Rattle.cp_assemble.specs.declared.linking.LinkError.{LinkError}
+use Rattle.cp_assemble.specs.declared.linking.LinkError.TheVariants as error
 use Rattle.cp_link.specs.Refusals.{refused}
 use Rattle.cp_link.specs.Linked.{linked}
 use Rattle.cp_link.specs.Lawful.{IsRunnable}

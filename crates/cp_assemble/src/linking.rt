@@ -1,7 +1,10 @@
-ghost use Rattle.cp_link.specs.Answers.{Links};
+ghost use Rattle.std.specs.Prelude.{◌≡◌, []};
+ghost use Rattle.cp_link.specs.Modules.{shared_in};
+ghost use Rattle.cp_assemble.specs.Answers.{Links};
 
-use crate::whole::refusal_in;
+use crate::assembling::assemble;
 use cp_code::Program;
+use cp_link::refusal_in;
 use cp_list::ListOf;
 use cp_module::{ModulePart, Refusal};
 use std::alloc::Global;
@@ -17,16 +20,18 @@ pub enum LinkError {
 }
 
 /// The program that these files and the prelude make, or the first refusal in them. The files stand in loading order, and
-/// those that one of them imports are among them. Regular types have no clauses yet, there are no assertions, and the
-/// operators of the files stay with them. The refusals stand; of files in which nothing is refused, it answers want of memory
-/// until the program is made.
+/// those that one of them imports are among them; the prelude has no shared predicates. Regular types have no clauses yet,
+/// there are no assertions, and the operators of the files stay with them.
 pub fn link(alloc: Global, parts: &ModuleParts, prelude: &ModulePart) -> Result<Program, LinkError>
+    requires prelude { shared_in prelude.now.clauses ≡ [] }
     ensures { Links parts.now prelude.now result }
 {
-    let _prelude = prelude;
     match refusal_in(alloc, parts.as_slice()) {
         Ok(Some(refusal)) => Err(LinkError::Refused(refusal)),
-        Ok(None) => Err(LinkError::NoMemory),
+        Ok(None) => match assemble(alloc, parts.as_slice(), prelude) {
+            Ok(program) => Ok(program),
+            Err(_) => Err(LinkError::NoMemory),
+        },
         Err(_) => Err(LinkError::NoMemory),
     }
 }

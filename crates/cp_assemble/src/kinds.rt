@@ -1,0 +1,62 @@
+ghost use Rattle.std.specs.Prelude.{◌≡◌, IfOk};
+ghost use Rattle.cp_link.specs.Modules.{said};
+ghost use Rattle.cp_link.specs.Linked.{kind_in, shared_kind, suspends, suspends_by};
+
+use crate::objects::Objects;
+use cp_code::PredKind;
+use cp_declaration::{Declaration, Indicator};
+use cp_link::{in_module, is_in, is_shared, name_of, said};
+use cp_module::ModulePart;
+use cp_read::ReadClause;
+use std::alloc::{AllocError, Global};
+
+/// What kind of predicate a file makes of one of its own, where these are the shared predicates of the program.
+pub(crate) fn kind_in(
+    alloc: Global,
+    shared: &Objects,
+    part: &ModulePart,
+    pred: &Indicator,
+) -> Result<PredKind, AllocError>
+    ensures { IfOk result (λ kind. kind ≡ kind_in shared.now part.now pred.now) }
+{
+    if !is_shared(alloc, part.clauses().as_slice(), pred)? {
+        return Ok(PredKind::Rules);
+    }
+    let waits = suspends(alloc, part.clauses().as_slice(), pred)?;
+    let name = name_of(alloc, part)?;
+    let object = shared.object_of(&in_module(&name, pred)?);
+    Ok(shared_kind(waits, object))
+}
+
+fn shared_kind(waits: bool, object: u32) -> PredKind
+    ensures { result ≡ shared_kind waits object }
+{
+    if waits {
+        PredKind::Concurrent(object)
+    } else {
+        PredKind::Plain(object)
+    }
+}
+
+/// Whether one of the clauses declares a predicate `concurrent`.
+fn suspends(alloc: Global, clauses: &[ReadClause], pred: &Indicator) -> Result<bool, AllocError>
+    ensures { IfOk result (λ found. found ≡ suspends clauses.now pred.now) }
+{
+    for clause in clauses {
+        if suspends_by(alloc, clause, pred)? {
+            return Ok(true);
+        }
+    }
+    Ok(false)
+}
+
+fn suspends_by(alloc: Global, clause: &ReadClause, pred: &Indicator) -> Result<bool, AllocError>
+    ensures { IfOk result (λ found. found ≡ suspends_by pred.now (said clause.now)) }
+{
+    match said(alloc, clause)? {
+        Some(Declaration::Shared { suspends, preds }) => {
+            Ok(suspends && is_in(preds.as_slice(), pred))
+        }
+        _ => Ok(false),
+    }
+}

@@ -1,0 +1,17 @@
+//! The program that the files of a program and the prelude make, or the first refusal in the files.
+#![tactic(auto)]
+
+mod active;
+mod assembling;
+mod imports;
+mod kinds;
+mod linking;
+mod marks;
+mod modules;
+mod objects;
+mod preds;
+mod remote;
+mod types;
+
+pub use assembling::assemble;
+pub use linking::{LinkError, ModuleParts, link};
