@@ -2,7 +2,6 @@
 use Rattle.std.proofs.Common.{◌≡◌, ℕ, ◌+◌, ◌<◌, ◌≤◌, inl, inr, refl, sym, ap, ◌∙◌, subst, Bool, true, false, Option, Some, None, List, [], ◌∷◌, ◌++◌, length, get_or, drop, arith}
 use Rattle.std.specs.Prelude.{nat_lt, cond, is_some}
 use Rattle.std.proofs.lemmas.Bool.{cases_lt, lt-ltb, le-ltb}
-use Rattle.std.proofs.lemmas.List.{drop_more}
 use Rattle.cp_read.specs.declared.clause.ReadClause.{ReadClause}
 use Rattle.cp_module.specs.declared.cause.Cause.{Cause}
 use Rattle.cp_module.specs.declared.why.Why.TheVariants as why
@@ -11,7 +10,8 @@ use Rattle.cp_module.specs.Least.{soonest}
 use Rattle.cp_module.specs.Parts.{Part}
 use Rattle.cp_link.specs.Modules.{said}
 use Rattle.cp_load.specs.Gathering.{known_by, known_after, too_many, misnamed, step_causes}
-use Rattle.cp_load.proofs.LeastLaws.{soonest-assoc, least-append}
+use Rattle.cp_load.proofs.LeastLaws.{soonest-assoc, least-append, soonest_none}
+use Rattle.cp_load.proofs.StepLaws.{split}
 use Rattle.cp_load.proofs.KnownLaws.{by_length}
 
 -- what is known behind a clause
@@ -58,9 +58,6 @@ pub record IsNoted (before : List (List ℕ)) (file : List ℕ) (clauses : List 
 pub none_noted : (before : List (List ℕ)) (file : List ℕ) (clauses : List ReadClause) → length before ≤ 64 → IsNoted before file clauses None before clauses
 none_noted before file clauses few = record { causes = refl; grows = λ h. refl; crowded = λ h. absurd (omega arith) }
 
-split : (xs : List ReadClause) (i : ℕ) (x : ReadClause) → i < length xs → x ≡ get_or xs i x → drop i xs ≡ x ∷ drop (i + 1) xs
-split xs i x lt is_x = drop_more xs i x lt ∙ ap (λ y. y ∷ drop (i + 1) xs) (sym is_x)
-
 some_soonest : (cause : Option Cause) (c : Cause) → is_some (soonest cause (Some c)) ≡ true
 some_soonest None c = refl
 some_soonest (Some d) c = refl
@@ -99,10 +96,6 @@ noted_next before known now file clauses i c cause found lt is_c is_now is_found
     let P : Option Cause → Type 0 = λ x. IsNoted before file clauses x now (drop (i + 1) clauses) in
     let Q : List (List ℕ) → Type 0 = λ k. IsNoted before file clauses (soonest cause (least (crowd c.line (noted known file c)))) k (drop (i + 1) clauses) in
     subst P e (subst Q (sym is_now) next)
-
-soonest_none : (cause : Option Cause) → soonest cause None ≡ cause
-soonest_none None = refl
-soonest_none (Some c) = refl
 
 -- all clauses are noted
 pub record AreNoted (before : List (List ℕ)) (file : List ℕ) (clauses : List ReadClause) (cause : Option Cause) (known : List (List ℕ)) : Type 0 where

@@ -128,3 +128,12 @@ soonest-assoc (Some x) (Some y) (Some z) = ap (λ d. Some d) (sooner-assoc x y z
 pub least-append : (xs ys : List Cause) → least (xs ++ ys) ≡ soonest (least xs) (least ys)
 least-append [] ys = refl
 least-append (c ∷ xs) ys = ap (λ o. soonest (Some c) o) (least-append xs ys) ∙ soonest-assoc (Some c) (least xs) (least ys)
+
+pub soonest_none : (cause : Option Cause) → soonest cause None ≡ cause
+soonest_none None = refl
+soonest_none (Some c) = refl
+
+-- past the first of two parts
+pub least_past : (cause found whole : Option Cause) (xs ys : List Cause) → soonest cause (least (xs ++ ys)) ≡ whole → found ≡ soonest cause (least xs) → soonest found (least ys) ≡ whole
+least_past cause found whole xs ys h f =
+    ap (λ x. soonest x (least ys)) f ∙ sym (soonest-assoc cause (least xs) (least ys)) ∙ ap (soonest cause) (sym (least-append xs ys)) ∙ h

@@ -1,5 +1,5 @@
 -- The program of files, and what loading decides of it.
-use Rattle.std.proofs.Common.{◌≡◌, ℕ, refl, sym, ap, ◌∙◌, subst, Bool, false, Option, Some, None, List, [], map}
+use Rattle.std.proofs.Common.{◌≡◌, ℕ, refl, sym, ap, ◌∙◌, subst, Bool, Option, Some, None, List, [], map}
 use Rattle.std.specs.Prelude.{Result, Ok, Err, codes}
 use Rattle.std.specs.Str.Lossy.{utf8_valid_len}
 use Rattle.std.specs.Str.{is_utf8, chars}
@@ -17,6 +17,8 @@ use Rattle.cp_module.specs.Causes as causes
 use Rattle.cp_module.specs.Parts.{Part}
 use Rattle.cp_module.specs.Paths.{base_of}
 use Rattle.cp_module.specs.Texts.{text_of}
+use Rattle.cp_assemble.specs.Answers.{Assembles}
+use Rattle.cp_link.specs.Lawful.{IsRunnable}
 use Rattle.cp_link.specs.Linked.{linked}
 use Rattle.cp_link.specs.Modules.{shared_in}
 use Rattle.cp_link.specs.Refusals as refusals
@@ -24,15 +26,15 @@ use Rattle.cp_link.specs.Refusals.{Fault}
 use Rattle.cp_load.specs.declared.error.LoadError.{LoadError}
 use Rattle.cp_load.specs.declared.error.LoadError.TheVariants as error
 use Rattle.cp_load.specs.Prelude as prelude
-use Rattle.cp_load.specs.Types.{type_fault}
-use Rattle.cp_load.specs.Assertions.{assertion_fault}
+use Rattle.cp_load.specs.Types.{type_fault, typed}
+use Rattle.cp_load.specs.Assertions.{assertion_fault, FilesAdd}
 use Rattle.cp_load.specs.Gathering.{gathered, Files}
 use Rattle.cp_load.specs.Accepted.{program_of, main_fault, or_else, judged, settled, outcome, IsProgramOf}
 use Rattle.cp_load.specs.Accepted as accepted
 use Rattle.cp_load.specs.Answers.{SpeakOfArguments, Decides, Loads, HasCause}
 use Rattle.cp_load.specs.Reached.{IsNotGathered, Gathers}
-use Rattle.cp_load.specs.Loading.{IsPrelude, ops_of_part, are_open, MakesLinked, Makes}
-use Rattle.cp_load.proofs.Closed.{no_type_fault, no_types, no_assertion_fault, no_assertions}
+use Rattle.cp_load.specs.Loading.{IsPrelude, ops_of_part, completion_fault, Completes, MakesLinked, Makes}
+use Rattle.cp_load.proofs.Asserting.{SameMeaning, files_same, faults_same}
 
 -- ---- the prelude
 
@@ -57,27 +59,32 @@ pub refused_first : (needs_main : Bool) (parts : List Part) (f : Fault) → refu
 refused_first needs_main parts f h =
     ap (λ o. or_else o (or_else (type_fault (linked parts prelude.prelude).types parts) (or_else (assertion_fault (program_of parts) parts) (main_fault needs_main parts)))) h
 
-pub main_last : (needs_main : Bool) (parts : List Part) (f : Option Fault) → refusals.refused parts ≡ None → are_open parts ≡ false → f ≡ main_fault needs_main parts → accepted.fault_of needs_main parts ≡ f
-main_last needs_main parts f r o h =
-    let t = no_type_fault (linked parts prelude.prelude).types parts o in
-    let a = no_assertion_fault (program_of parts) parts o in
-    λ i. or_else (r i) (or_else (t i) (or_else (a i) (sym h i)))
+-- the program that is completed means what that of the files means
+same_files : (parts : List Part) (p : Program) → Assembles parts prelude.prelude p → SameMeaning (record p { types = typed p.types parts }) (program_of parts)
+same_files parts p m = record { preds = ap (λ (x : Program). x.preds) m; types = ap (λ (x : Program). typed x.types parts) m }
 
-pub makes : (needs_main : Bool) (parts : List Part) (p : Program) (ops : List Ops) → MakesLinked parts (Ok p) → are_open parts ≡ false → None ≡ main_fault needs_main parts → ops ≡ map ops_of_part parts
-    → Makes needs_main parts (Ok (record p { ops = ops }))
+pub later : (needs_main : Bool) (parts : List Part) (p : Program) (f : Option Fault) → refusals.refused parts ≡ None → Assembles parts prelude.prelude p → f ≡ completion_fault needs_main parts p → accepted.fault_of needs_main parts ≡ f
+later needs_main parts p f r m h =
+    let t : type_fault (linked parts prelude.prelude).types parts ≡ type_fault p.types parts = ap (λ (x : Program). type_fault x.types parts) (sym m) in
+    let a = sym (faults_same (record p { types = typed p.types parts }) (program_of parts) parts (same_files parts p m)) in
+    (λ i. or_else (r i) (or_else (t i) (or_else (a i) (main_fault needs_main parts)))) ∙ sym h
+
+pub makes : (needs_main : Bool) (parts : List Part) (p q : Program) (ops : List Ops) → MakesLinked parts (Ok p) → None ≡ completion_fault needs_main parts p → Completes parts p q → ops ≡ map ops_of_part parts
+    → Makes needs_main parts (Ok (record q { ops = ops }))
 unfolding linked
-makes needs_main parts p ops m o h e =
+makes needs_main parts p q ops m h k e =
     let none : p.checks ≡ [] = ap (λ (x : Program). x.checks) m.1 in
-    let rows = no_types (linked parts prelude.prelude).types parts o in
-    let program : Program = linked parts prelude.prelude in
-    let first : record p { ops = ops } ≡ program = λ i. record (m.1 i) { ops = e i } in
-    let second : program ≡ record (program_of parts) { checks = p.checks } = λ i. record program { types = sym rows i; checks = sym none i } in (
-      main_last needs_main parts None m.0 o h,
-      record { is_linked = first ∙ second; assertions = no_assertions (program_of parts) parts [] p.checks o none },
-      record {
-        runnable = record { lawful = record { objects = m.2.lawful.objects }; bodies = m.2.bodies };
-        arguments = let P : List Assertion → Type 0 = λ cs. SpeakOfArguments cs in subst P (sym none) tt;
-      },
+    let whole : Program = record p { types = typed p.types parts; checks = q.checks; ops = ops } in
+    let first : record q { ops = ops } ≡ whole = λ i. record (k.kept i) { ops = ops } in
+    let second : whole ≡ record (program_of parts) { checks = q.checks } = λ i. record (m.1 i) { types = typed (m.1 i).types parts; checks = q.checks; ops = e i } in
+    let assertions : FilesAdd (program_of parts) parts p.checks q.checks = files_same (record p { types = typed p.types parts }) (program_of parts) parts p.checks q.checks (same_files parts p m.1) k.added in
+    let From : List Assertion → Type 0 = λ cs. FilesAdd (program_of parts) parts cs q.checks in
+    let Speak : List Assertion → Type 0 = λ cs. SpeakOfArguments cs in
+    let Runs : Program → Type 0 = λ x. IsRunnable x in
+    let runs : IsRunnable whole = record { lawful = record { objects = m.2.lawful.objects }; bodies = m.2.bodies } in (
+      later needs_main parts p None m.0 m.1 h,
+      record { is_linked = first ∙ second; assertions = subst From none assertions },
+      record { runnable = subst Runs (sym first) runs; arguments = k.arguments (subst Speak (sym none) tt) },
     )
 
 -- ---- what loading decides

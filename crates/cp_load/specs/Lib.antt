@@ -6,3 +6,5 @@ pub mod Accepted
 pub mod Answers
 pub mod Reached
 pub mod Loading
+pub mod Typing
+pub mod Asserting

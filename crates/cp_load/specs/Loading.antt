@@ -1,24 +1,23 @@
 -- What files make, from what is gathered to a program.
-use Rattle.std.specs.Prelude.{◌≡◌, Bool, true, false, List, [], Option, Some, None, Result, Ok, Err}
-use Rattle.std.specs.List.{list_any}
+use Rattle.std.specs.Prelude.{◌≡◌, Bool, List, [], Option, Some, None, Result, Ok, Err}
 use Rattle.cp_ops.specs.Operators.{Ops}
 use Rattle.cp_code.specs.declared.program.Program.{Program}
-use Rattle.cp_declaration.specs.declared.declaration.Declaration.{Declaration}
-use Rattle.cp_declaration.specs.declared.declaration.Declaration.TheVariants as declares
 use Rattle.cp_module.specs.declared.module.Loaded.{Loaded}
 use Rattle.cp_module.specs.declared.module.Loaded.TheVariants as loaded
 use Rattle.cp_module.specs.Parts.{Part}
-use Rattle.cp_link.specs.Modules.{said, shared_in}
+use Rattle.cp_link.specs.Modules.{shared_in}
 use Rattle.cp_link.specs.Kept.{fault_of}
 use Rattle.cp_link.specs.Refusals as refusals
-use Rattle.cp_link.specs.Answers.{Assembles}
+use Rattle.cp_assemble.specs.Answers.{Assembles}
 use Rattle.cp_link.specs.Lawful.{IsRunnable}
 use Rattle.cp_load.specs.declared.error.LoadError.{LoadError}
 use Rattle.cp_load.specs.declared.error.LoadError.TheVariants as error
 use Rattle.cp_load.specs.Prelude.{prelude}
 use Rattle.cp_load.specs.Accepted as accepted
-use Rattle.cp_load.specs.Accepted.{IsProgramOf}
-use Rattle.cp_load.specs.Answers.{IsSafe}
+use Rattle.cp_load.specs.Accepted.{IsProgramOf, or_else, main_fault}
+use Rattle.cp_load.specs.Answers.{IsSafe, SpeakOfArguments}
+use Rattle.cp_load.specs.Assertions.{assertion_fault, FilesAdd}
+use Rattle.cp_load.specs.Types.{type_fault, typed}
 
 -- the prelude, which declares no predicate to be shared, unless memory runs out
 abbrev pub IsPrelude : Loaded → Type 0
@@ -29,18 +28,16 @@ IsPrelude loaded.NoMemory = Unit {0}
 abbrev pub ops_of_part : Part → Ops
 ops_of_part p = p.ops
 
--- a regular type or an assertion
-abbrev pub is_open : Option Declaration → Bool
-is_open (Some (declares.RegType name)) = true
-is_open (Some declares.Assertion) = true
-is_open other = false
+-- the first refusal in the regular types and the assertions of files and for want of `main/0`
+abbrev pub completion_fault : (needs_main : Bool) → List Part → Program → Option refusals.Fault
+completion_fault needs_main parts p =
+    or_else (type_fault p.types parts) (or_else (assertion_fault (record p { types = typed p.types parts }) parts) (main_fault needs_main parts))
 
-abbrev pub is_open_part : Part → Bool
-is_open_part p = list_any (λ c. is_open (said c)) p.clauses
-
--- one of the files declares a regular type or an assertion
-abbrev pub are_open : List Part → Bool
-are_open parts = list_any is_open_part parts
+-- the program with the clauses of its regular types, and with the assertions of the files behind those that it has
+pub record Completes (parts : List Part) (old now : Program) : Type 0 where
+  pub kept : now ≡ record old { types = typed old.types parts; checks = now.checks }
+  pub added : FilesAdd (record old { types = typed old.types parts }) parts old.checks now.checks
+  pub arguments : SpeakOfArguments old.checks → SpeakOfArguments now.checks
 
 -- the program of these files, whose operators are still theirs
 abbrev pub MakesLinked : List Part → Result Program LoadError → Type 0

@@ -1,7 +1,6 @@
 ghost use Rattle.std.specs.Prelude.{◌≡◌};
 
 use cp_io::Bytes;
-use cp_link::LinkError;
 use cp_module::Refusal;
 use std::alloc::AllocError;
 

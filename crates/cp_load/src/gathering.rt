@@ -5,8 +5,8 @@ ghost use Rattle.cp_load.specs.Reached.{Gathers, IsTaken, TakesFile, IsReached, 
 
 use crate::error::LoadError;
 use crate::step::step_refusal;
+use cp_assemble::ModuleParts;
 use cp_io::{ByteLists, Bytes, Fetched, Files, bytes_of};
-use cp_link::ModuleParts;
 use cp_module::{Loaded, ModulePart, module_of};
 use std::alloc::Global;
 

@@ -4,15 +4,14 @@ ghost use Rattle.cp_load.specs.Answers.{Loads, HasCause};
 ghost use Rattle.cp_load.specs.Loading.{Makes, MakesLinked};
 ghost use Rattle.cp_load.specs.Prelude.{prelude};
 
+use crate::completed::complete;
 use crate::error::LoadError;
 use crate::gathering::gather;
-use crate::main_goal::main_refusal;
-use crate::open::are_open;
 use crate::operators::operators_of;
 use crate::prelude::prelude;
+use cp_assemble::{LinkError, ModuleParts, link};
 use cp_code::Program;
 use cp_io::Files;
-use cp_link::{LinkError, ModuleParts, link};
 use cp_module::{Loaded, ModulePart};
 use std::alloc::Global;
 
@@ -23,8 +22,9 @@ pub struct Need {
     pub main: bool,
 }
 
-/// The program of the file of this name and of the files that it imports, directly or not. So far it answers want of memory
-/// for files that declare a regular type or an assertion.
+/// The program of the file of this name and of the files that it imports, directly or not, with the prelude; or else the first
+/// refusal in them, or the name of the file that is missing, that has more than 1,048,576 bytes or that could not be
+/// fetched. A program has at most 64 files, and each is fetched once.
 pub fn load<F: Files>(
     alloc: Global,
     files: &mut F,
@@ -43,14 +43,10 @@ pub fn load<F: Files>(
 fn program_of(alloc: Global, parts: ModuleParts, needs_main: bool) -> Result<Program, LoadError>
     ensures { Makes needs_main parts result }
 {
-    let program = linked(alloc, &parts)?;
-    if are_open(alloc, parts.as_slice())? {
-        return Err(LoadError::NoMemory);
-    }
-    if let Some(refusal) = main_refusal(alloc, needs_main, parts.as_slice())? {
+    let mut program = linked(alloc, &parts)?;
+    if let Some(refusal) = complete(alloc, &mut program, needs_main, parts.as_slice())? {
         return Err(LoadError::Refused(refusal));
     }
-    let mut program = program;
     program.ops = operators_of(alloc, parts)?;
     Ok(program)
 }
@@ -61,7 +57,7 @@ fn linked(alloc: Global, parts: &ModuleParts) -> Result<Program, LoadError>
 {
     match prelude(alloc) {
         Loaded::Part(common) => linked_with(alloc, parts, &common),
-        Loaded::Refused(_) => Err(LoadError::NoMemory),
+        Loaded::Refused(_) => unreachable!(),
         Loaded::NoMemory => Err(LoadError::NoMemory),
     }
 }

@@ -1,8 +1,8 @@
 ghost use Rattle.std.specs.Prelude.{◌≡◌, map, IfOk};
 ghost use Rattle.cp_load.specs.Loading.{ops_of_part};
 
+use cp_assemble::ModuleParts;
 use cp_code::OpTables;
-use cp_link::ModuleParts;
 use std::alloc::{AllocError, Global};
 
 /// The operators of each file at its end.
