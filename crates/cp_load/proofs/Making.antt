@@ -101,12 +101,12 @@ decides tree name needs_main parts h (Err error.NoMemory) m = tt
 pub loads : (told : Option Tree) (name : List ℕ) (needs_main : Bool) (parts : List Part) (answer : Result Program LoadError) → Gathers told name (Ok parts) → Makes needs_main parts answer → Loads told name needs_main answer
 loads told name needs_main parts answer g m = (g.0, g.1, decides g.0 name needs_main parts g.2 answer m)
 
-not_gathered : (tree : Tree) (name : List ℕ) (needs_main : Bool) (e : LoadError) → IsNotGathered (gathered tree name) e → Decides tree name needs_main (Err e)
+not_gathered : (tree : Tree) (name : List ℕ) (needs_main : Bool) (e : LoadError) → IsNotGathered tree name e → Decides tree name needs_main (Err e)
 unfolding outcome
 not_gathered tree name needs_main (error.Refused r) h = ap (settled needs_main) h
 not_gathered tree name needs_main (error.Missing file) h = ap (settled needs_main) h
 not_gathered tree name needs_main (error.FileTooBig file) h = ap (settled needs_main) h
-not_gathered tree name needs_main (error.FileFault file) h = tt
+not_gathered tree name needs_main (error.FileFault file) h = ap (settled needs_main) h
 not_gathered tree name needs_main error.NoMemory h = tt
 
 pub loads_not : (told : Option Tree) (name : List ℕ) (needs_main : Bool) (e : LoadError) → Gathers told name (Err e) → Loads told name needs_main (Err e)

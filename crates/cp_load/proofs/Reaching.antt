@@ -8,7 +8,7 @@ use Rattle.cp_module.specs.declared.refusal.Refusal.{Refusal}
 use Rattle.cp_module.specs.Parts.{Part}
 use Rattle.cp_link.specs.Kept.{fault_of}
 use Rattle.cp_link.specs.Refusals.{Fault}
-use Rattle.cp_load.specs.Gathering.{Gathered, Files, Refuses, Missing, TooBig, Takes, Ends, taken, is_known, known_after, step_fault, unless_refused, unless_ended, unless_last, gather, gathered}
+use Rattle.cp_load.specs.Gathering.{Gathered, Files, Refuses, Missing, TooBig, Takes, Ends, taken, is_known, known_after, step_fault, unless_refused, unless_ended, unless_last, without, gather, gathered}
 use Rattle.cp_load.specs.declared.error.LoadError.{LoadError}
 use Rattle.cp_load.specs.declared.error.LoadError.TheVariants as error
 use Rattle.cp_load.specs.Reached.{TakesFile, Gathers, AgreeOn, IsReached, Reaches}
@@ -199,12 +199,25 @@ gathers_not told name known parts answer e y r h s =
     let P : Result (List Part) LoadError → Type 0 = λ a. Gathers told name a in
     subst P (sym (h ∙ ap Err s)) (r.0, r.1, r.2)
 
+-- the file that is next is missed where it is not there
+fault_here : (told : Option Tree) (name : List ℕ) (known : List (List ℕ)) (parts : List Part) (file : List ℕ) (r : IsReached told name known parts) → slice_get known (length parts) ≡ Some file → gathered (without file r.tree) name ≡ Missing file
+fault_here told name known parts file r s =
+    let others : (n : List ℕ) → bytes_eq n file ≡ false → without file r.tree n ≡ r.tree n = λ n e. ap (λ b. cond b None (r.tree n)) e in
+    let has : without file r.tree file ≡ None = ap (λ b. cond b None (r.tree file)) (same file) in
+    let lt : length parts < length known = slice_get_within known (length parts) file s in
+    let bound : 65 - length parts ≡ suc (64 - length parts) = omega (arith, r.room) in
+    let before = agree_narrow (without file r.tree) (without file r.tree) r.tree file others (take (length parts) known) (not_before known (length parts) file r.distinct s) (agree_itself (without file r.tree) (take (length parts) known)) in
+    r.goes_on (without file r.tree) before ∙ ap (λ m. gather m (without file r.tree) known parts) bound
+    ∙ gather_ends (64 - length parts) (without file r.tree) known parts file (Missing file) s (ap (taken file) has)
+
 not_taken : (told : Option Tree) (name : List ℕ) (known after : List (List ℕ)) (parts now : List Part) (file : List ℕ) (e : LoadError)
     → IsReached told name known parts → slice_get known (length parts) ≡ Some file → TakesFile told file (Err e) → Reaches told name after now (Err e)
 not_taken told name known after parts now file (error.Refused r) h s t = let x = ends_here told name known parts file t.0 (Refuses (fault_of r)) h s t.1 t.2 in (x.tree, x.is_told, x.gathers)
 not_taken told name known after parts now file (error.Missing f) h s t = let x = ends_here told name known parts file t.0 (Missing f) h s t.1 t.2 in (x.tree, x.is_told, x.gathers)
 not_taken told name known after parts now file (error.FileTooBig f) h s t = let x = ends_here told name known parts file t.0 (TooBig f) h s t.1 t.2 in (x.tree, x.is_told, x.gathers)
-not_taken told name known after parts now file (error.FileFault f) h s t = (h.tree, h.is_told, tt)
+not_taken told name known after parts now file (error.FileFault f) h s t =
+    let P : List ℕ → Type 0 = λ x. gathered (without x h.tree) name ≡ Missing x in
+    (h.tree, h.is_told, subst P (sym t.2) (fault_here told name known parts file h s))
 not_taken told name known after parts now file error.NoMemory h s t = (h.tree, h.is_told, tt)
 
 -- the next file is no part

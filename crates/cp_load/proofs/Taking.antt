@@ -47,7 +47,7 @@ same_taken file text whole e (Ok p) k = sym e ∙ k
 same_taken file text whole e (Err (error.Refused r)) k = sym e ∙ k
 same_taken file text whole e (Err (error.Missing f)) k = sym e ∙ k
 same_taken file text whole e (Err (error.FileTooBig f)) k = sym e ∙ k
-same_taken file text whole e (Err (error.FileFault f)) k = tt
+same_taken file text whole e (Err (error.FileFault f)) k = k
 same_taken file text whole e (Err error.NoMemory) k = tt
 
 takes_some : (told : Option Tree) (file text : List ℕ) (answer : Result Part LoadError) → IfSome told (λ files. FetchedFrom files file 1048576 (fetched.Bytes text)) → IsTaken file (Some text) answer → TakesFile told file answer

@@ -10,6 +10,7 @@ use Rattle.cp_load.specs.declared.error.LoadError.{LoadError}
 use Rattle.cp_load.specs.declared.error.LoadError.TheVariants as error
 use Rattle.cp_load.specs.Accepted as accepted
 use Rattle.cp_load.specs.Accepted.{outcome, Accepted}
+use Rattle.cp_load.specs.Gathering.{without}
 
 abbrev pub SpeakOfArguments : List Assertion → Type 0
 SpeakOfArguments [] = Unit {0}
@@ -21,13 +22,14 @@ pub record IsSafe (p : Program) : Type 0 where
   pub runnable : IsRunnable p
   pub arguments : SpeakOfArguments p.checks
 
--- what these files decide, unless memory runs out or a fetch fails
+-- What these files decide, unless memory runs out or a fetch fails; the file of a fetch that failed is the one that is missed
+-- where it is not there.
 abbrev pub Decides : Tree → (name : List ℕ) → (needs_main : Bool) → Result Program LoadError → Type 0
 Decides tree name needs_main (Ok p) = Accepted tree name needs_main p × IsSafe p
 Decides tree name needs_main (Err (error.Refused r)) = outcome tree name needs_main ≡ accepted.Refuses (record { file = r.file; cause = record { line = r.line; why = r.why } })
 Decides tree name needs_main (Err (error.Missing file)) = outcome tree name needs_main ≡ accepted.Missing file
 Decides tree name needs_main (Err (error.FileTooBig file)) = outcome tree name needs_main ≡ accepted.TooBig file
-Decides tree name needs_main (Err (error.FileFault file)) = Unit {0}
+Decides tree name needs_main (Err (error.FileFault file)) = outcome (without file tree) name needs_main ≡ accepted.Missing file
 Decides tree name needs_main (Err error.NoMemory) = Unit {0}
 
 -- The answer is what some files decide: those that are told, where they are.

@@ -136,3 +136,7 @@ gather (suc most) tree known parts =
 
 unfoldable pub gathered : Tree → (name : List ℕ) → Gathered
 gathered tree name = gather 65 tree (name ∷ []) []
+
+-- the tree without the file of this name
+abbrev pub without : (file : List ℕ) → Tree → Tree
+without file tree name = cond (bytes_eq name file) None (tree name)

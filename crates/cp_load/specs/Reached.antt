@@ -5,22 +5,22 @@ use Rattle.cp_module.specs.Parts.{Part}
 use Rattle.cp_link.specs.Kept.{fault_of}
 use Rattle.cp_load.specs.declared.error.LoadError.{LoadError}
 use Rattle.cp_load.specs.declared.error.LoadError.TheVariants as error
-use Rattle.cp_load.specs.Gathering.{Gathered, Files, Refuses, Missing, TooBig, Taken, Takes, Ends, taken, is_known, gather, gathered}
+use Rattle.cp_load.specs.Gathering.{Files, Refuses, Missing, TooBig, Taken, Takes, Ends, taken, is_known, without, gather, gathered}
 
 -- ---- one file
 
 -- why there is no part of a file
-abbrev pub IsNotTaken : Taken → LoadError → Type 0
-IsNotTaken t (error.Refused r) = t ≡ Ends (Refuses (fault_of r))
-IsNotTaken t (error.Missing file) = t ≡ Ends (Missing file)
-IsNotTaken t (error.FileTooBig file) = t ≡ Ends (TooBig file)
-IsNotTaken t (error.FileFault file) = Unit {0}
-IsNotTaken t error.NoMemory = Unit {0}
+abbrev pub IsNotTaken : (file : List ℕ) → Taken → LoadError → Type 0
+IsNotTaken file t (error.Refused r) = t ≡ Ends (Refuses (fault_of r))
+IsNotTaken file t (error.Missing f) = t ≡ Ends (Missing f)
+IsNotTaken file t (error.FileTooBig f) = t ≡ Ends (TooBig f)
+IsNotTaken file t (error.FileFault f) = f ≡ file
+IsNotTaken file t error.NoMemory = Unit {0}
 
 -- what a file with this content is by itself, unless memory runs out or a fetch fails
 abbrev pub IsTaken : (file : List ℕ) → Option (List ℕ) → Result Part LoadError → Type 0
 IsTaken file content (Ok p) = taken file content ≡ Takes p
-IsTaken file content (Err e) = IsNotTaken (taken file content) e
+IsTaken file content (Err e) = IsNotTaken file (taken file content) e
 
 -- the file has some content: that which is told, where it is
 abbrev pub TakesFile : Option Tree → (file : List ℕ) → Result Part LoadError → Type 0
@@ -28,20 +28,20 @@ TakesFile told file answer = (content : Option (List ℕ)) × IfSome told (λ fi
 
 -- ---- all files
 
-abbrev pub IsNotGathered : Gathered → LoadError → Type 0
-IsNotGathered g (error.Refused r) = g ≡ Refuses (fault_of r)
-IsNotGathered g (error.Missing file) = g ≡ Missing file
-IsNotGathered g (error.FileTooBig file) = g ≡ TooBig file
-IsNotGathered g (error.FileFault file) = Unit {0}
-IsNotGathered g error.NoMemory = Unit {0}
+abbrev pub IsNotGathered : Tree → (name : List ℕ) → LoadError → Type 0
+IsNotGathered tree name (error.Refused r) = gathered tree name ≡ Refuses (fault_of r)
+IsNotGathered tree name (error.Missing file) = gathered tree name ≡ Missing file
+IsNotGathered tree name (error.FileTooBig file) = gathered tree name ≡ TooBig file
+IsNotGathered tree name (error.FileFault file) = gathered (without file tree) name ≡ Missing file
+IsNotGathered tree name error.NoMemory = Unit {0}
 
-abbrev pub IsGathered : Gathered → Result (List Part) LoadError → Type 0
-IsGathered g (Ok parts) = g ≡ Files parts
-IsGathered g (Err e) = IsNotGathered g e
+abbrev pub IsGathered : Tree → (name : List ℕ) → Result (List Part) LoadError → Type 0
+IsGathered tree name (Ok parts) = gathered tree name ≡ Files parts
+IsGathered tree name (Err e) = IsNotGathered tree name e
 
 -- what the files from this one are in some tree: in that which is told, where it is
 abbrev pub Gathers : Option Tree → (name : List ℕ) → Result (List Part) LoadError → Type 0
-Gathers told name answer = (tree : Tree) × IfSome told (λ files. tree ≡ files) × IsGathered (gathered tree name) answer
+Gathers told name answer = (tree : Tree) × IfSome told (λ files. tree ≡ files) × IsGathered tree name answer
 
 -- ---- the files so far
 
@@ -67,4 +67,4 @@ pub record IsReached (told : Option Tree) (name : List ℕ) (known : List (List 
 -- the same when a file more is loaded, or what the files are where it is not
 abbrev pub Reaches : Option Tree → (name : List ℕ) → (known : List (List ℕ)) → List Part → Result (Unit {0}) LoadError → Type 0
 Reaches told name known parts (Ok u) = IsReached told name known parts
-Reaches told name known parts (Err e) = (tree : Tree) × IfSome told (λ files. tree ≡ files) × IsNotGathered (gathered tree name) e
+Reaches told name known parts (Err e) = (tree : Tree) × IfSome told (λ files. tree ≡ files) × IsNotGathered tree name e

@@ -4,10 +4,10 @@ ghost use Rattle.cp_load.specs.Answers.{SpeakOfArguments};
 ghost use Rattle.cp_load.specs.Assertions.{declared_in, AddsBy};
 ghost use Rattle.cp_load.specs.Asserting.{why_by, IsWhy, AddsOne, KeepsRest};
 
-use crate::names::said;
 use cp_assertion::{AssertionError, assertion_of};
 use cp_code::{Assertion, Program};
 use cp_declaration::Declaration;
+use cp_link::said;
 use cp_module::Why;
 use cp_read::ReadClause;
 use cp_term::{Cell, Cells, Name, Term};

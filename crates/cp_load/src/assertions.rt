@@ -8,9 +8,9 @@ ghost use Rattle.cp_load.specs.Assertions.{causes_in, assertion_fault, ClausesAd
 ghost use Rattle.cp_load.specs.Asserting.{KeepsRest};
 
 use crate::asserted::add_assertion;
-use crate::names::name_of;
 use crate::step::refusal_at;
 use cp_code::Program;
+use cp_link::name_of;
 use cp_module::{Cause, ModulePart, Refusal, soonest};
 use std::alloc::{AllocError, Global};
 

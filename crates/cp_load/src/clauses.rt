@@ -1,10 +1,10 @@
-ghost use Rattle.std.specs.Prelude.{◌≡◌, ◌∷◌, ◌||◌, [], None, Some, IfOk, MatchOption};
+ghost use Rattle.std.specs.Prelude.{◌≡◌, None, Some, IfOk, MatchOption};
 ghost use Rattle.std.specs.List.{list_any};
 ghost use Rattle.cp_code.specs.Clauses.{is_neck, head_of};
-ghost use Rattle.cp_declaration.specs.Declarations.{declaration};
-ghost use Rattle.cp_module.specs.Causes.{pred_of, same, is_in, headed, shares, shares_by, is_clause_of, is_shared, is_defined};
+ghost use Rattle.cp_module.specs.Causes.{pred_of, headed, is_clause_of, is_defined};
 
-use cp_declaration::{Declaration, Indicator, Indicators, declaration_of, is_declaration};
+use cp_declaration::{Indicator, is_declaration};
+use cp_link::{is_clause_of, is_shared};
 use cp_read::ReadClause;
 use cp_term::{Cell, Name};
 use std::alloc::{AllocError, Global};
@@ -37,44 +37,6 @@ fn has_clause(clauses: &[ReadClause], pred: &Indicator) -> bool
     clauses.iter().any(|clause| is_clause_of(clause, pred))
 }
 
-/// Whether one of the clauses declares a predicate to be shared.
-fn is_shared(alloc: Global, clauses: &[ReadClause], pred: &Indicator) -> Result<bool, AllocError>
-    ensures { IfOk result (λ found. found ≡ is_shared clauses.now pred.now) }
-{
-    for clause in clauses {
-        let preds = shares(alloc, clause)?;
-        if is_in(preds.as_slice(), pred) {
-            return Ok(true);
-        }
-    }
-    Ok(false)
-}
-
-/// The predicates that a clause declares to be shared.
-fn shares(alloc: Global, clause: &ReadClause) -> Result<Indicators, AllocError>
-    ensures { IfOk result (λ preds. preds ≡ shares clause.now) }
-{
-    if is_declaration(&clause.term) {
-        shares_by(alloc, clause)
-    } else {
-        Ok(Indicators::new(alloc))
-    }
-}
-
-fn shares_by(alloc: Global, clause: &ReadClause) -> Result<Indicators, AllocError>
-    ensures { IfOk result (λ preds. preds ≡ shares_by (declaration clause.now.term)) }
-{
-    match declaration_of(alloc, &clause.term)? {
-        Some(
-            Declaration::Shared {
-                suspends: _suspends,
-                preds,
-            },
-        ) => Ok(preds),
-        _ => Ok(Indicators::new(alloc)),
-    }
-}
-
 /// The predicate that a clause is of. A declaration is of none.
 pub(crate) fn pred_of(clause: &ReadClause) -> Result<Option<Indicator>, AllocError>
     ensures { IfOk result (λ pred. pred ≡ pred_of clause.now) }
@@ -88,18 +50,6 @@ pub(crate) fn pred_of(clause: &ReadClause) -> Result<Option<Indicator>, AllocErr
             arity: head.arity,
         })),
         None => Ok(None),
-    }
-}
-
-pub(crate) fn is_clause_of(clause: &ReadClause, pred: &Indicator) -> bool
-    ensures { result ≡ is_clause_of pred.now clause.now }
-{
-    if is_declaration(&clause.term) {
-        return false;
-    }
-    match head_of(clause.term.cells()) {
-        Some(head) => pred.name.bytes() == head.name.bytes() && pred.arity == head.arity,
-        None => false,
     }
 }
 
@@ -141,16 +91,4 @@ fn is_neck(cell: &Cell) -> bool
         Cell::Int(_) => false,
         Cell::Atom(_) => false,
     }
-}
-
-pub(crate) fn is_in(preds: &[Indicator], pred: &Indicator) -> bool
-    ensures { result ≡ is_in preds.now pred.now }
-{
-    preds.iter().any(|other| same(pred, other))
-}
-
-fn same(pred: &Indicator, other: &Indicator) -> bool
-    ensures { result ≡ same pred.now other.now }
-{
-    pred.name.bytes() == other.name.bytes() && pred.arity == other.arity
 }

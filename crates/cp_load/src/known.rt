@@ -3,9 +3,9 @@ ghost use Rattle.cp_module.specs.Causes.{unless, least};
 ghost use Rattle.cp_link.specs.Modules.{said};
 ghost use Rattle.cp_load.specs.Gathering.{is_known, with_file, known_by, known_after, too_many};
 
-use crate::names::said;
 use cp_declaration::Declaration;
 use cp_io::{ByteLists, Bytes};
+use cp_link::said;
 use cp_module::{Cause, Why, imported_file, soonest};
 use cp_read::ReadClause;
 use std::alloc::{AllocError, Global};

@@ -10,7 +10,6 @@ mod gathering;
 mod known;
 mod loading;
 mod main_goal;
-mod names;
 mod operators;
 mod prelude;
 mod step;

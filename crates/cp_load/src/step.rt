@@ -7,9 +7,9 @@ ghost use Rattle.cp_link.specs.Modules.{said};
 ghost use Rattle.cp_load.specs.Gathering.{known_after, header_line, is_misnamed, misnamed, step_causes, imports_file, imports_first, first_causes, first_of, fault_at, is_none, step_fault};
 
 use crate::known::note_imports;
-use crate::names::{name_of, said};
 use cp_declaration::Declaration;
 use cp_io::{ByteLists, bytes_of};
+use cp_link::{name_of, said};
 use cp_module::{Cause, ModulePart, Refusal, Why, base_of, imported_file, soonest};
 use cp_read::ReadClause;
 use std::alloc::{AllocError, Global};

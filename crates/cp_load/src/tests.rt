@@ -43,27 +43,57 @@ fn outcome(alloc: Global, rows: &[(&str, &str)]) -> End {
     }
 }
 
+const ONE_FILE: [(&str, End); 7] = [
+    (
+        ":- module(m, [main/0]).\n:- regtype c/1.\nc(red).\n:- pred p(X) : c(X).\np(_).\nmain :- p(red).\n",
+        End::Loaded,
+    ),
+    (
+        ":- module(m, [main/0]).\n:- regtype t/1.\n:- regtype t/1.\nt(a).\nmain.\n",
+        End::Refused(3, Why::NotRegular),
+    ),
+    (
+        ":- module(m, [main/0]).\n:- regtype t/1.\nt(a).\nt(f(X, X)).\nmain.\n",
+        End::Refused(4, Why::NotRegular),
+    ),
+    (
+        ":- module(m, [main/0]).\n:- pred p(X) : big(X).\np(_).\nmain.\n",
+        End::Refused(2, Why::BadProperty),
+    ),
+    (
+        ":- module(m, []).\n:- use_module(m).\np(X) :- q:r(X).\n",
+        End::Refused(3, Why::NotExported),
+    ),
+    (":- module(m, []).\np.\n", End::Refused(1, Why::NoMain)),
+    (
+        ":- module(m, [main/0]).\n:- use_module(b).\nmain.\n",
+        End::Missing,
+    ),
+];
+
 #[test]
-fn rows(rt: HostRuntime) -> Result<(), Fail> {
-    let alloc = rt.alloc();
+fn one_file(rt: HostRuntime) -> Result<(), Fail> {
+    for (text, wanted) in ONE_FILE {
+        assert_eq!(rt;
+            outcome(rt.alloc(), [("m.pl", text)].as_slice()),
+            wanted,
+            "{text}"
+        );
+    }
+    Ok(())
+}
+
+#[test]
+fn three_files(rt: HostRuntime) -> Result<(), Fail> {
     let m = ":- module(m, [main/0]).\n:- use_module(b).\nmain :- b.\n";
+    let b = ":- module(b, [b/0]).\n:- use_module(c).\nb :- c.\n";
     let c = ":- module(c, [c/0]).\n:- use_module(m).\nc :- true.\n";
-    assert_eq!(rt; outcome(alloc, [].as_slice()), End::Missing);
-    assert_eq!(rt; outcome(alloc, [("m.pl", m)].as_slice()), End::Missing);
+    let ring = [("m.pl", m), ("b.pl", b), ("c.pl", c)];
+    assert_eq!(rt; outcome(rt.alloc(), ring.as_slice()), End::Loaded);
+    let misnamed = [("m.pl", m), ("b.pl", c)];
     assert_eq!(rt;
-        outcome(alloc, [("m.pl", m), ("b.pl", c)].as_slice()),
+        outcome(rt.alloc(), misnamed.as_slice()),
         End::Refused(1, Why::BadDeclaration)
-    );
-    assert_eq!(rt;
-        outcome(
-            alloc,
-            [(
-                "m.pl",
-                ":- module(m,[]).\n:- use_module(m).\np(X) :- q:r(X).\n"
-            )]
-            .as_slice()
-        ),
-        End::Refused(3, Why::NotExported)
     );
     Ok(())
 }

@@ -3,9 +3,9 @@ ghost use Rattle.cp_module.specs.Causes.{unless, cause_on, least};
 ghost use Rattle.cp_link.specs.Modules.{said, one};
 ghost use Rattle.cp_load.specs.Typing.{type_name, declared_names, is_name_in, is_again, again_in};
 
-use crate::names::said;
 use cp_code::Names;
 use cp_declaration::Declaration;
+use cp_link::said;
 use cp_module::{Cause, Why, soonest};
 use cp_read::ReadClause;
 use cp_term::Name;

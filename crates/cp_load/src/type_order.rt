@@ -3,9 +3,10 @@ ghost use Rattle.cp_module.specs.Causes.{pred_of};
 ghost use Rattle.cp_load.specs.Types.{type_order};
 ghost use Rattle.cp_load.specs.Typing.{is_name_in, is_type_named, with_type};
 
-use crate::clauses::{is_in, pred_of};
+use crate::clauses::pred_of;
 use crate::type_names::{declared_names, is_name_in};
 use cp_declaration::{Indicator, Indicators};
+use cp_link::is_in;
 use cp_read::ReadClause;
 use cp_term::Name;
 use std::alloc::{AllocError, Global};

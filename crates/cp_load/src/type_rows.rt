@@ -5,12 +5,11 @@ ghost use Rattle.cp_module.specs.Causes.{clauses_of, least};
 ghost use Rattle.cp_link.specs.Linked.{clause_in};
 ghost use Rattle.cp_load.specs.Types.{line_of, irregular, irregular_types, type_order, with_types};
 
-use crate::clauses::is_clause_of;
-use crate::names::name_of;
 use crate::type_order::type_order;
 use cp_assertion::{TypeError, add_regtype};
 use cp_code::{Clause, Clauses, TypeRow, Types};
 use cp_declaration::Indicator;
+use cp_link::{is_clause_of, name_of};
 use cp_module::{Cause, ModulePart, Why, soonest};
 use cp_read::ReadClause;
 use cp_term::Name;

@@ -24,4 +24,4 @@ returns-in-Bytes-clause-cause g c =
     (c.in_ok-text.ensures.no_fault (no_fault c.in_ok-text.field-0 c.in-Bytes.text c.in-Bytes.is _)) (c.in_ok-text.ensures.not_missing (no_miss c.in_ok-text.field-0 c.in-Bytes.text c.in-Bytes.is _))
 
 pub returns-in-Fault-clause-loads : goal.returns-in-Fault-clause-loads
-returns-in-Fault-clause-loads g c = let k = some_content (g.F.Files.tree c.args.files.now) c.args.file.now in (k.0, k.1, tt)
+returns-in-Fault-clause-loads g c = let k = some_content (g.F.Files.tree c.args.files.now) c.args.file.now in (k.0, k.1, c.in_ok-name.ensures)
