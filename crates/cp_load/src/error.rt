@@ -1,6 +1,5 @@
 ghost use Rattle.std.specs.Prelude.{◌≡◌};
 
-use cp_assemble::LinkError;
 use cp_io::Bytes;
 use cp_module::Refusal;
 use std::alloc::AllocError;
