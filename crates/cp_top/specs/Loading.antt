@@ -2,8 +2,8 @@
 use Rattle.std.specs.Prelude.{◌≡◌, ◌⊎◌, ℕ, Bool, List, Option, Result, Ok, Err, codes}
 use Rattle.cp_io.specs.Content.{Tree}
 use Rattle.cp_code.specs.declared.program.Program.{Program}
-use Rattle.cp_load.specs.declared.loading.LoadError.{LoadError}
-use Rattle.cp_load.specs.declared.loading.LoadError.TheVariants as error
+use Rattle.cp_load.specs.declared.error.LoadError.{LoadError}
+use Rattle.cp_load.specs.declared.error.LoadError.TheVariants as error
 use Rattle.cp_load.specs.Answers.{Loads, HasCause}
 use Rattle.cp_top.specs.Lines.{file_line, refused_line}
 use Rattle.cp_top.specs.Written.{CallEnd, IsRefusal, IsShort}
