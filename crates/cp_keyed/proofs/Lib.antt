@@ -1,0 +1,5 @@
+pub mod Ahead
+pub mod Finding
+pub mod Indexing
+pub mod Rows
+pub mod Searching
