@@ -28,6 +28,4 @@ pub use compound::{atom, with_one, with_two};
 pub use outcome::Outcome1;
 
 #[cfg(test)]
-mod list_tests;
-#[cfg(test)]
 mod tests;
