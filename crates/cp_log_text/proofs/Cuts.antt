@@ -5,10 +5,12 @@ use Rattle.std.proofs.lemmas.Grind.{flat_map-append}
 use Rattle.std.proofs.lemmas.Bool.{le-leb, lt-leb}
 use Rattle.std.specs.Prelude.{encode_utf8}
 use Rattle.std.specs.Char.{len_utf8}
+use Rattle.std.specs.Str.{is_utf8, IsUtf8}
+use Rattle.std.proofs.lemmas.Str.{IsUtf8-from_is_utf8, is_utf8-from_IsUtf8}
 use Rattle.cp_term.specs.declared.cell.Cell.{Cell}
 use Rattle.cp_log_text.specs.declared.line.Line.{Line}
-use Rattle.cp_log_text.specs.Line.{functor, word, atom, element_parts, list_parts}
-use Rattle.cp_log_text.specs.Port.{fits, cut_from, piece_parts, cut}
+use Rattle.cp_log_text.specs.Line.{functor, word, atom, number, element_parts, list_parts}
+use Rattle.cp_log_text.specs.Port.{fits, cut_from, piece_parts, bytes_parts, cut}
 use Rattle.cp_log_text.specs.Building.{Gains, ended_by, kept_before}
 use Rattle.cp_log_text.proofs.Parts.{both, nothing}
 
@@ -103,3 +105,20 @@ one_atom {a} {b} text h g =
 pub several_atoms : {a b : Line} (text : List ℕ) → 1024 < length text → Gains a b (list_parts (map atom (cut text))) → Gains a b (piece_parts text)
 several_atoms {a} {b} text h g =
     subst (λ (t : Bool). Gains a b (cond t (atom text ∷ []) (list_parts (map atom (cut text))))) (sym (lt-leb (length text) 1024 h)) g
+
+-- ---- whether bytes are a text
+
+pub a_text : {a b : Line} (bytes : List ℕ) → IsUtf8 bytes → Gains a b (piece_parts bytes) → Gains a b (bytes_parts bytes)
+a_text {a} {b} bytes h g =
+    subst (λ (t : Bool). Gains a b (cond t (piece_parts bytes) (list_parts (map number bytes)))) (sym (is_utf8-from_IsUtf8 bytes h)) g
+
+by_test : {X : Type 0} (b : Bool) → (b ≡ true → X) → (X → ⊥) → b ≡ false
+by_test true f h = absurd (h (f refl))
+by_test false f h = refl
+
+no_test : (bytes : List ℕ) → (IsUtf8 bytes → ⊥) → is_utf8 bytes ≡ false
+no_test bytes h = by_test (is_utf8 bytes) (IsUtf8-from_is_utf8 bytes) h
+
+pub no_text : {a b : Line} (bytes : List ℕ) → (IsUtf8 bytes → ⊥) → Gains a b (list_parts (map number bytes)) → Gains a b (bytes_parts bytes)
+no_text {a} {b} bytes h g =
+    subst (λ (t : Bool). Gains a b (cond t (piece_parts bytes) (list_parts (map number bytes)))) (sym (no_test bytes h)) g

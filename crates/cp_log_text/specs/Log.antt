@@ -30,7 +30,7 @@ log_text o = lines_text (log_lines o)
 abbrev pub is_worker : EngineEnd → Bool
 is_worker e = not (is_lane e.stand) && list_all is_logged e.items
 
--- the outcome has a log: its engines are workers, and what was written on the port is text
+-- the outcome has a log that can be read: its engines are workers, and what was written on the port is text
 pub record HasLog (o : Outcome) : Type 0 where
   pub workers : IsTrue (list_all is_worker o.engines)
   pub text : IsTrue (list_all (λ (w : OutEntry). is_utf8 w.bytes) o.port)

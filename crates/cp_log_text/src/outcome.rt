@@ -1,6 +1,7 @@
-ghost use Rattle.std.specs.Prelude.{◌≡◌, ◌++◌, length, IfOk, OnOk};
+ghost use Rattle.std.specs.Prelude.{◌≡◌, ◌++◌, length, IsTrue, IfOk, OnOk};
+ghost use Rattle.std.specs.List.{list_all};
 ghost use Rattle.cp_log_text.specs.Line.{line_text, term_with};
-ghost use Rattle.cp_log_text.specs.Log.{log_text, head_parts, HasLog};
+ghost use Rattle.cp_log_text.specs.Log.{log_text, head_parts, is_worker};
 
 use crate::engine::put_engines;
 use crate::history::put_objects;
@@ -15,9 +16,9 @@ use std::alloc::{AllocError, Global};
 /// objects, the writes on the output port, the items of each engine, and the line `end`. Each line is a term, written
 /// with quotes under the standard operators, and a full stop.
 ///
-/// The engines are workers, and what they wrote on the port is UTF-8.
+/// The engines are workers. Bytes on the port that are no UTF-8 are the list of their numbers, which is no log that can be read.
 pub fn log_text(alloc: Global, outcome: &Outcome) -> Result<Bytes, AllocError>
-    requires { HasLog outcome.now }
+    requires { IsTrue (list_all is_worker outcome.now.engines) }
     ensures { IfOk result (λ text. text ≡ log_text outcome.now) }
 {
     let mut log = Log::new(alloc)?;
@@ -26,7 +27,7 @@ pub fn log_text(alloc: Global, outcome: &Outcome) -> Result<Bytes, AllocError>
 }
 
 fn put_outcome(log: &mut Log, outcome: &Outcome) -> Result<(), AllocError>
-    requires { HasLog outcome.now }
+    requires { IsTrue (list_all is_worker outcome.now.engines) }
     ensures { OnOk result (log.new ≡ log.old ++ log_text outcome.now) }
 {
     let line = head_line(log.alloc(), outcome)?;

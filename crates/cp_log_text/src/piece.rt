@@ -1,25 +1,31 @@
 ghost use Rattle.std.specs.Prelude.{◌≡◌, [], ◌∷◌, ◌++◌, OnOk, map, string_bytes, encode_utf8};
-ghost use Rattle.cp_log_text.specs.Line.{functor, atom, element_parts, list_parts};
-ghost use Rattle.cp_log_text.specs.Port.{piece_parts, cut};
+ghost use Rattle.cp_log_text.specs.Line.{functor, atom, number, element_parts, list_parts};
+ghost use Rattle.cp_log_text.specs.Port.{bytes_parts, piece_parts, cut};
 ghost use Rattle.cp_log_text.specs.Building.{Gains, ended_by, kept_before};
-ghost use Rattle.std.specs.Str.{IsUtf8};
 
 use crate::line::Line;
+use crate::reply::add_number;
 use cp_term::Name;
 use std::alloc::AllocError;
 
-/// Adds a piece of text that was written on the port.
-pub(crate) fn add_piece(line: &mut Line, text: &[u8]) -> Result<(), AllocError>
-    requires { IsUtf8 text.now }
+/// Adds what was written on the port.
+pub(crate) fn add_bytes(line: &mut Line, bytes: &[u8]) -> Result<(), AllocError>
+    ensures { OnOk result (Gains line.old line.new (bytes_parts bytes.now)) }
+{
+    match str::from_utf8(bytes) {
+        Ok(text) => add_text(line, text),
+        Err(_) => add_numbers(line, bytes),
+    }
+}
+
+/// Adds a text that was written.
+fn add_text(line: &mut Line, text: &str) -> Result<(), AllocError>
     ensures { OnOk result (Gains line.old line.new (piece_parts text.now)) }
 {
     if text.len() <= Name::MAX_LEN {
-        line.word(text)?;
+        line.word(text.as_bytes())?;
         return Ok(());
     }
-    let Ok(text) = str::from_utf8(text) else {
-        unreachable!()
-    };
     add_cut(line, text)?;
     Ok(())
 }
@@ -66,5 +72,24 @@ fn add_element(line: &mut Line, piece: &str) -> Result<(), AllocError>
 {
     line.functor(b".", 2)?;
     line.word(piece.as_bytes())?;
+    Ok(())
+}
+
+/// Adds bytes as the list of their numbers.
+fn add_numbers(line: &mut Line, bytes: &[u8]) -> Result<(), AllocError>
+    ensures { OnOk result (Gains line.old line.new (list_parts (map number bytes.now))) }
+{
+    add_numbers_of(line, bytes)?;
+    line.word(b"[]")?;
+    Ok(())
+}
+
+/// Adds the numbers of bytes as elements of a list, without its end.
+fn add_numbers_of(line: &mut Line, bytes: &[u8]) -> Result<(), AllocError>
+    ensures { OnOk result (Gains line.old line.new (element_parts (map number bytes.now))) }
+{
+    'bytes: for byte in bytes {
+        add_number(line, u32::from(*byte))?;
+    }
     Ok(())
 }

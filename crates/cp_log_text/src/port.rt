@@ -1,19 +1,16 @@
-ghost use Rattle.std.specs.Prelude.{◌≡◌, [], ◌∷◌, ◌++◌, IsTrue, IfOk, OnOk, map};
-ghost use Rattle.std.specs.List.{list_all};
-ghost use Rattle.std.specs.Str.{is_utf8, IsUtf8};
+ghost use Rattle.std.specs.Prelude.{◌≡◌, [], ◌∷◌, ◌++◌, IfOk, OnOk, map};
 ghost use Rattle.cp_log_text.specs.Line.{line_text, lines_text};
 ghost use Rattle.cp_log_text.specs.Port.{port_lines, write_line, put_reply};
 ghost use Rattle.cp_log_text.specs.Building.{Gains};
 
 use crate::line::Line;
 use crate::log::Log;
-use crate::piece::add_piece;
+use crate::piece::add_bytes;
 use cp_call::{OutEntry, PutReply};
 use std::alloc::{AllocError, Global};
 
 /// Puts the lines of the output port.
 pub(crate) fn put_port(log: &mut Log, port: &[OutEntry]) -> Result<(), AllocError>
-    requires { IsTrue (list_all (λ w. is_utf8 w.bytes) port.now) }
     ensures { OnOk result (log.new ≡ log.old ++ lines_text (port_lines port.now)) }
 {
     log.put_word(b"port")?;
@@ -22,7 +19,6 @@ pub(crate) fn put_port(log: &mut Log, port: &[OutEntry]) -> Result<(), AllocErro
 }
 
 fn put_writes(log: &mut Log, writes: &[OutEntry]) -> Result<(), AllocError>
-    requires { IsTrue (list_all (λ w. is_utf8 w.bytes) writes.now) }
     ensures { OnOk result (log.new ≡ log.old ++ lines_text (map write_line writes.now)) }
 {
     'writes: for write in writes {
@@ -32,7 +28,6 @@ fn put_writes(log: &mut Log, writes: &[OutEntry]) -> Result<(), AllocError>
 }
 
 fn put_write(log: &mut Log, write: &OutEntry) -> Result<(), AllocError>
-    requires { IsUtf8 write.now.bytes }
     ensures { OnOk result (log.new ≡ log.old ++ line_text (write_line write.now)) }
 {
     let line = line_of(log.alloc(), write)?;
@@ -41,13 +36,12 @@ fn put_write(log: &mut Log, write: &OutEntry) -> Result<(), AllocError>
 }
 
 fn line_of(alloc: Global, write: &OutEntry) -> Result<Line, AllocError>
-    requires { IsUtf8 write.now.bytes }
     ensures { IfOk result (λ line. line.cells ≡ write_line write.now) }
 {
     let mut line = Line::new(alloc);
     line.functor(b"w", 3)?;
     line.number(write.engine)?;
-    add_piece(&mut line, write.bytes.as_slice())?;
+    add_bytes(&mut line, write.bytes.as_slice())?;
     add_put_reply(&mut line, write.reply)?;
     Ok(line)
 }

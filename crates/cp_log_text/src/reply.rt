@@ -108,15 +108,16 @@ fn add_callers(line: &mut Line, callers: &[u32]) -> Result<(), AllocError>
     ensures { OnOk result (Gains line.old line.new (element_parts (map number callers.now))) }
 {
     'callers: for caller in callers {
-        add_caller(line, *caller)?;
+        add_number(line, *caller)?;
     }
     Ok(())
 }
 
-fn add_caller(line: &mut Line, caller: u32) -> Result<(), AllocError>
-    ensures { OnOk result (Gains line.old line.new (functor "." 2 ∷ number caller ∷ [])) }
+/// Adds a number as an element of a list, without the rest of the list.
+pub(crate) fn add_number(line: &mut Line, value: u32) -> Result<(), AllocError>
+    ensures { OnOk result (Gains line.old line.new (functor "." 2 ∷ number value ∷ [])) }
 {
     line.functor(b".", 2)?;
-    line.number(caller)?;
+    line.number(value)?;
     Ok(())
 }

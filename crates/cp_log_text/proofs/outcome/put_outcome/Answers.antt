@@ -8,11 +8,8 @@ use Rattle.cp_log_text.specs.Log.{head_parts}
 use Rattle.cp_log_text.proofs.Texts.{outcome_text}
 use Rattle.cp_log_text.proofs.outcome.put_outcome.Goals as goal
 
-pub put_port-requires : goal.put_port-requires
-put_port-requires c = rw c.as_slice-2.ensures c.requires.text
-
 pub put_engines-requires : goal.put_engines-requires
-put_engines-requires c = rw c.as_slice-3.ensures c.requires.workers
+put_engines-requires c = rw c.as_slice-3.ensures c.requires
 
 pub returns : goal.returns
 returns c =

@@ -4,9 +4,6 @@ use Rattle.cp_log_text.specs.Line.{line_text, lines_text}
 use Rattle.cp_log_text.specs.Port.{write_line}
 use Rattle.cp_log_text.proofs.Parts.{taken}
 use Rattle.cp_log_text.proofs.Texts.{more_lines}
-use Rattle.cp_log_text.proofs.Tests.{all_at}
-use Rattle.std.specs.Str.{is_utf8}
-use Rattle.std.proofs.lemmas.Str.{IsUtf8-from_is_utf8}
 use Rattle.cp_log_text.proofs.port.put_writes.Goals as goal
 
 pub writes-preserved : goal.writes-preserved
@@ -18,6 +15,3 @@ writes-preserved c =
     ∙ ap (λ (t : List ℕ). t ++ line_text (write_line x)) c.writes.invariant
     ∙ more_lines write_line c.args.log.now (take i xs) x
     ∙ ap (λ (ys : List OutEntry). c.args.log.now ++ lines_text (map write_line ys)) (taken xs i x c.write-item.is c.writes-test.true)
-
-pub put_write-requires : goal.put_write-requires
-put_write-requires c = IsUtf8-from_is_utf8 _ (all_at (λ (w : OutEntry). is_utf8 w.bytes) c.args.writes.now c.writes.write-index _ c.requires c.write-item.is c.writes-test.true)

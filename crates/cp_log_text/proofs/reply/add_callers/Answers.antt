@@ -8,7 +8,7 @@ pub callers-preserved : goal.callers-preserved
 callers-preserved c =
     let xs = c.args.callers.now in
     let i = c.callers.caller-index in
-    same (more_mapped number (take i xs) (get_or xs i 0) c.callers.invariant c.in_ok-add_caller.ensures)
+    same (more_mapped number (take i xs) (get_or xs i 0) c.callers.invariant c.in_ok-add_number.ensures)
     (ap (λ (ns : List ℕ). element_parts (map number ns)) (sym (take_more xs i 0 c.callers-test.true)))
 
 pub returns : goal.returns
