@@ -12,10 +12,12 @@ use std::alloc::AllocError;
 pub(crate) fn add_bytes(line: &mut Line, bytes: &[u8]) -> Result<(), AllocError>
     ensures { OnOk result (Gains line.old line.new (bytes_parts bytes.now)) }
 {
-    match str::from_utf8(bytes) {
-        Ok(text) => add_text(line, text),
-        Err(_) => add_numbers(line, bytes),
-    }
+    let Ok(text) = str::from_utf8(bytes) else {
+        add_numbers(line, bytes)?;
+        return Ok(());
+    };
+    add_text(line, text)?;
+    Ok(())
 }
 
 /// Adds a text that was written.

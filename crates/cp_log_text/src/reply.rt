@@ -28,12 +28,7 @@ pub(crate) fn add_reply(line: &mut Line, reply: &Reply) -> Result<(), AllocError
     }
 }
 
-fn add_woken_at(
-    line: &mut Line,
-    name: &[u8],
-    place: i64,
-    woken: &Callers,
-) -> Result<(), AllocError>
+fn add_woken_at(line: &mut Line, name: &[u8], place: i64, woken: &Callers) -> Result<(), AllocError>
     ensures { OnOk result (Gains line.old line.new ((Func name.now 2 ∷ []) ∷ integer place ∷ woken_parts woken.now)) }
 {
     line.functor(name, 2)?;
