@@ -1,5 +1,6 @@
 -- How a line grows by its parts.
 use Rattle.std.proofs.Common.{◌≡◌, ℕ, suc, ◌+◌, ◌<◌, max, List, [], ◌∷◌, ◌++◌, take, length, get_or, map, refl, sym, ap, subst, ◌∙◌, append_assoc, add_assoc, add-zero, zero-add, arith}
+use Rattle.std.specs.Prelude.{Result, Ok, Err, OnOk}
 use Rattle.std.proofs.lemmas.List.{append-nil, map-append, take_more}
 use Rattle.cp_term.specs.declared.cell.Cell.{Cell}
 use Rattle.cp_term.specs.declared.cell.Cell.TheVariants.{Var, Int, Atom, Func}
@@ -65,10 +66,10 @@ next_shifted n m (Atom a) = omega arith
 next_shifted n m (Func f k) = omega arith
 
 -- one cell more of a term
-pub longer : {a b c : Line} {done : List Cell} {cell : Cell}
+pub longer : {a b c : Line} {done : List Cell} (cell : Cell)
     → Gains a b (done ∷ []) → c.cells ≡ b.cells ++ renamed (λ v. v + a.next) cell ∷ [] → c.next ≡ max b.next (next_variable (renamed (λ v. v + a.next) cell ∷ []))
     → Gains a c ((done ++ cell ∷ []) ∷ [])
-longer {a} {b} {c} {done} {cell} g e n =
+longer {a} {b} {c} {done} cell g e n =
     let here : List Cell = renamed (λ v. v + a.next) cell ∷ [] in
     record {
       cells =
@@ -82,6 +83,11 @@ longer {a} {b} {c} {done} {cell} g e n =
           ∙ next_shifted a.next (next_variable done) cell
           ∙ ap (λ (k : ℕ). a.next + k) (sym (next_variable-snoc done cell) ∙ sym (add-zero (next_variable (done ++ cell ∷ []))));
     }
+
+-- a line that grew unless memory was short, by the same parts told otherwise
+pub same_if : {T E : Type 0} (r : Result T E) (a b : Line) {ps qs : List (List Cell)} → OnOk r (Gains a b ps) → ps ≡ qs → OnOk r (Gains a b qs)
+same_if (Ok u) a b g e = same g e
+same_if (Err x) a b g e = tt
 
 -- the items of a list before the place i, and the one there
 pub taken : {X : Type 0} (xs : List X) (i : ℕ) (x : X) → x ≡ get_or xs i x → i < length xs → take i xs ++ x ∷ [] ≡ take (i + 1) xs

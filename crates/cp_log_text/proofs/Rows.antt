@@ -1,8 +1,13 @@
 -- The log of a worked run, which the definition computes: one engine runs the goal `m:main`, which adds a fact, takes it again,
 -- and writes it and a newline.
-use Rattle.std.proofs.Common.{◌≡◌, ℕ, List, [], ◌∷◌, ◌++◌, refl, true, false}
+use Rattle.std.proofs.Common.{◌≡◌, ℕ, List, [], ◌∷◌, ◌++◌, ◌<◌, zero, suc, Bool, cond, refl, ap, ap₂, lit<, true, false}
 use Rattle.std.specs.Prelude.{ℤ, pos, None, codes}
 use Rattle.std.specs.List.{flat_map}
+use Rattle.std.specs.Fmt.{digits}
+use Rattle.std.specs.Str.{IsAscii}
+use Rattle.std.proofs.lemmas.Str.{IsUtf8-from_ascii, is_utf8-from_IsUtf8}
+use Rattle.std.proofs.lemmas.Str.Ascii.{IsAscii-nil}
+use Rattle.cp_log_text.specs.Port.{write_line}
 use Prim.Native.String.{String}
 use Rattle.cp_term.specs.declared.cell.Cell.{Cell}
 use Rattle.cp_term.specs.declared.cell.Cell.TheVariants.{Var, Int, Atom, Func}
@@ -16,8 +21,8 @@ use Rattle.cp_call.specs.declared.outcome.Stand.TheVariants as stand
 use Rattle.cp_call.specs.declared.outcome.PredEnd.{PredEnd}
 use Rattle.cp_call.specs.declared.outcome.EngineEnd.{EngineEnd}
 use Rattle.cp_call.specs.declared.outcome.Outcome.{Outcome}
-use Rattle.cp_log_text.specs.Line.{line_text}
-use Rattle.cp_log_text.specs.Log.{log_text}
+use Rattle.cp_log_text.specs.Line.{functor, word, atom, number, list_parts, term_with, line_text, lines_text}
+use Rattle.cp_log_text.specs.Log.{log_text, log_lines}
 
 abbrev one : List ℕ
 one = codes "1"
@@ -122,6 +127,34 @@ rows =
     "stand(parked(0))." ∷
     "end." ∷ []
 
-outcome-log : log_text outcome ≡ flat_map (λ row. codes row ++ 10 ∷ []) rows
-unfolding line_text
-outcome-log = refl
+-- each line has this text
+abbrev AreWritten : List (List Cell) → List String → Type 0
+AreWritten [] [] = Unit {0}
+AreWritten (line ∷ lines) (row ∷ texts) = (line_text line ≡ codes row ++ newline) × AreWritten lines texts
+AreWritten [] (row ∷ texts) = ⊥
+AreWritten (line ∷ lines) [] = ⊥
+
+all_written : (lines : List (List Cell)) (texts : List String) → AreWritten lines texts → lines_text lines ≡ flat_map (λ row. codes row ++ newline) texts
+all_written [] [] h = refl
+all_written (line ∷ lines) (row ∷ texts) h = ap₂ (λ (a b : List ℕ). a ++ b) h.0 (all_written lines texts h.1)
+all_written [] (row ∷ texts) h = absurd h
+all_written (line ∷ lines) [] h = absurd h
+
+-- a character of ASCII is a text
+ascii : (c : ℕ) → c < 128 → IsAscii (c ∷ [])
+ascii c h zero = h
+ascii c h (suc i) = IsAscii-nil i
+
+wrote : (c : ℕ) → c < 128
+    → line_text (write_line (record { engine = 1; bytes = c ∷ []; reply = put.Wrote })) ≡ line_text (term_with (functor "w" 3 ∷ number 1 ∷ atom (c ∷ []) ∷ word "wrote" ∷ []))
+wrote c h =
+    ap (λ (b : Bool). line_text (term_with (functor "w" 3 ∷ number 1 ∷ cond b (atom (c ∷ []) ∷ []) (list_parts (number c ∷ [])) ++ word "wrote" ∷ [])))
+    (is_utf8-from_IsUtf8 (c ∷ []) (IsUtf8-from_ascii (c ∷ []) (ascii c h)))
+
+lines_are_written : AreWritten (log_lines outcome) rows
+unfolding line_text digits
+lines_are_written =
+    (refl, (refl, (refl, (refl, (refl, (refl, (refl, (refl, (refl, (refl, (wrote 49 (lit< tt), (wrote 10 (lit< tt), (refl, (refl, (refl, (refl, (refl, (refl, (refl, (refl, (refl, (refl, tt))))))))))))))))))))))
+
+outcome-log : log_text outcome ≡ flat_map (λ row. codes row ++ newline) rows
+outcome-log = all_written (log_lines outcome) rows lines_are_written

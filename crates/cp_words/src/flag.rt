@@ -1,4 +1,4 @@
-ghost use Rattle.std.specs.Prelude.{◌≡◌, map, count_by};
+ghost use Rattle.std.specs.Prelude.{◌≡◌, count_by};
 ghost use Rattle.std.specs.List.{list_any};
 ghost use Rattle.cp_words.specs.Words.{is_flag, flag_of};
 
@@ -6,7 +6,7 @@ use cp_io::Bytes;
 
 /// Whether the word is one of these options without a value.
 pub(crate) fn is_one_of(flags: &[&[u8]], word: &[u8]) -> bool
-    ensures { result ≡ list_any (λ f. is_flag f word.now) (map (λ f. f.now) flags.now) }
+    ensures { result ≡ list_any (λ f. is_flag f.now word.now) flags.now }
 {
     flags.iter().any(|flag| word == *flag)
 }

@@ -1,7 +1,7 @@
 use Rattle.std.proofs.Common.{ℕ, List, ◌++◌, take, map, ap, ◌∙◌}
 use Rattle.cp_call.specs.declared.item.Item.{Item}
 use Rattle.cp_log_text.specs.Line.{line_text, lines_text}
-use Rattle.cp_log_text.specs.Engine.{item_line}
+use Rattle.cp_log_text.specs.Engine.{item_line, is_logged}
 use Rattle.cp_log_text.proofs.Parts.{taken}
 use Rattle.cp_log_text.proofs.Texts.{more_lines}
 use Rattle.cp_log_text.proofs.Tests.{all_at}

@@ -9,7 +9,7 @@ cells-preserved c =
     let xs = c.args.cells.now in
     let i = c.cells.cell-index in
     let x = c.cell-item.result in
-    same (longer c.cells.invariant c.in_ok-shifted_cell.ensures.cells c.in_ok-shifted_cell.ensures.next)
+    same (longer x c.cells.invariant c.in_ok-shifted_cell.ensures.cells c.in_ok-shifted_cell.ensures.next)
     (ap (λ (ys : List Cell). ys ∷ []) (taken xs i x c.cell-item.is c.cells-test.true))
 
 pub returns : goal.returns
