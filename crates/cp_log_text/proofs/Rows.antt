@@ -1,6 +1,6 @@
 -- The log of a worked run, which the definition computes: one engine runs the goal `m:main`, which adds a fact, takes it again,
 -- and writes it and a newline.
-use Rattle.std.proofs.Common.{◌≡◌, ℕ, List, [], ◌∷◌, ◌++◌, ◌<◌, zero, suc, Bool, cond, refl, ap, ap₂, lit<, true, false}
+use Rattle.std.proofs.Common.{◌≡◌, ℕ, List, [], ◌∷◌, ◌++◌, ◌<◌, zero, suc, Bool, cond, refl, ap, ap₂, lit<, true}
 use Rattle.std.specs.Prelude.{ℤ, pos, None, codes}
 use Rattle.std.specs.List.{flat_map}
 use Rattle.std.specs.Fmt.{digits}

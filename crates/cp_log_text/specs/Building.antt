@@ -1,5 +1,5 @@
 -- What contracts see of a line that is being built.
-use Rattle.std.specs.Prelude.{◌≡◌, ℕ, ◌+◌, cond, List, [], ◌∷◌, ◌++◌, length, encode_utf8}
+use Rattle.std.specs.Prelude.{◌≡◌, ℕ, ◌+◌, cond, List, [], ◌∷◌, ◌++◌, length}
 use Rattle.std.specs.Char.{len_utf8}
 use Rattle.cp_term.specs.declared.cell.Cell.{Cell}
 use Rattle.cp_log_text.specs.declared.line.Line.{Line}

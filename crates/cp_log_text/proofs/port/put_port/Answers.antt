@@ -1,5 +1,5 @@
-use Rattle.std.proofs.Common.{ℕ, List, ◌++◌, map, ap, ◌∙◌}
-use Rattle.cp_log_text.specs.Line.{lines_text, word}
+use Rattle.std.proofs.Common.{map}
+use Rattle.cp_log_text.specs.Line.{word}
 use Rattle.cp_log_text.specs.Port.{write_line}
 use Rattle.cp_log_text.proofs.Texts.{head_word}
 use Rattle.cp_log_text.proofs.port.put_port.Goals as goal

@@ -3,8 +3,8 @@ use Rattle.cp_top.proofs.Telling.{told_run, short_run}
 use Rattle.cp_top.proofs.Workers.{all_workers}
 use Rattle.cp_top.proofs.sim.run.Goals as goal
 
-pub tell-requires-workers : goal.tell-requires-workers
-tell-requires-workers g c =
+pub tell-requires-clause-workers : goal.tell-requires-clause-workers
+tell-requires-clause-workers g c =
     all_workers c.args.code.now.program c.args.settings.seed c.args.code.now.steps c.args.settings.engines c.in-Some.outcome (search rules)
 
 pub returns-in-None : goal.returns-in-None
