@@ -4,7 +4,7 @@ use Rattle.cp_term.specs.declared.cell.Cell.{Cell}
 use Rattle.cp_call.specs.declared.item.Item.{Item}
 use Rattle.cp_log_text.specs.Line.{line_text, lines_text, term_with}
 use Rattle.cp_log_text.specs.Engine.{engine_parts, item_line, stand_parts}
-use Rattle.cp_log_text.proofs.Tests.{is_not}
+use Rattle.cp_log_text.proofs.Elements.{is_not}
 use Rattle.cp_log_text.proofs.Texts.{engine_text}
 use Rattle.cp_log_text.proofs.engine.put_engine.Goals as goal
 

@@ -5,7 +5,7 @@ use Rattle.cp_log_text.specs.Line.{lines_text}
 use Rattle.cp_log_text.specs.Engine.{engine_lines}
 use Rattle.cp_log_text.proofs.Parts.{taken}
 use Rattle.cp_log_text.proofs.Texts.{more_blocks}
-use Rattle.cp_log_text.proofs.Tests.{all_at}
+use Rattle.cp_log_text.proofs.Elements.{all_at}
 use Rattle.cp_log_text.specs.Log.{is_worker}
 use Rattle.cp_log_text.proofs.engine.put_engines.Goals as goal
 

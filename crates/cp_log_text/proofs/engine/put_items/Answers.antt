@@ -4,7 +4,7 @@ use Rattle.cp_log_text.specs.Line.{line_text, lines_text}
 use Rattle.cp_log_text.specs.Engine.{item_line, is_logged}
 use Rattle.cp_log_text.proofs.Parts.{taken}
 use Rattle.cp_log_text.proofs.Texts.{more_lines}
-use Rattle.cp_log_text.proofs.Tests.{all_at}
+use Rattle.cp_log_text.proofs.Elements.{all_at}
 use Rattle.cp_log_text.proofs.engine.put_items.Goals as goal
 
 pub items-preserved : goal.items-preserved
