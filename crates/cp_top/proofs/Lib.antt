@@ -1,3 +1,4 @@
 pub mod Telling
+pub mod Workers
 pub mod Inside
 pub mod Examples

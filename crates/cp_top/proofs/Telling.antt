@@ -13,7 +13,7 @@ use Rattle.cp_out.proofs.PortLaws.{grown-all, grown-prefix}
 use Rattle.cp_schedule.specs.Ended.{HasRunTo}
 use Rattle.cp_simulate.specs.Runs.{setup, IsRunOf}
 use Rattle.cp_top.specs.Ending.{Ending, ending_of}
-use Rattle.cp_top.specs.Written.{end_on, HasPut, status_on, IsTold, IsCutAt, IsRunEnd}
+use Rattle.cp_top.specs.Written.{end_on, HasPut, status_on, last_bytes, IsTold, IsCutAt, IsRunEnd}
 
 -- a beginning of what was to be written was written, where the count rose
 begun : (before bytes now : List ℕ) (count : ℕ) → IsPrefix now (before ++ bytes) → IsPrefix before now → 0 < count → HasPut (Some before) bytes count (Some now)
@@ -48,14 +48,14 @@ status_failed : (count status : ℕ) → 0 < count → 74 ≡ status_on count st
 status_failed zero status h = absurd (omega arith)
 status_failed (suc n) status h = refl
 
-pub told_failed : {S : Type 0} (held : S → Option (List ℕ)) (faults : S → ℕ) (o : Outcome) (first sink : S) → Records held faults first o.port sink → faults first ≡ 0 → any_failed o.port ≡ true
-    → IsTold o (end_on held faults first sink 74 (Some o))
-told_failed held faults o first sink records none failed =
+pub told_failed : {S : Type 0} (held : S → Option (List ℕ)) (faults : S → ℕ) (log : Bool) (o : Outcome) (first sink : S) → Records held faults first o.port sink → faults first ≡ 0 → any_failed o.port ≡ true
+    → IsTold log o (end_on held faults first sink 74 (Some o))
+told_failed held faults log o first sink records none failed =
     let h : 0 < faults sink = some_count (faults first) (faults sink) none (records.caused failed) in
     record {
       outcome_is = refl;
       status_is = status_failed (faults sink) (ending_of o).status h;
-      written = failed_written (held first) o.port (held sink) (faults sink) (ending_of o).line records.grew h;
+      written = failed_written (held first) o.port (held sink) (faults sink) (last_bytes log o) records.grew h;
     }
 
 whole_by : (before : List ℕ) (port : List OutEntry) (now line : List ℕ) (count : ℕ) (held : Option (List ℕ)) → now ≡ before ++ pieces port → HasPut (Some now) line count held → HasPut (Some before) (pieces port ++ line) count held
@@ -71,10 +71,10 @@ whole_written None port now line count held h g w = subst (λ x. HasPut x line c
 whole_written (Some before) port None line count held h g w = absurd g
 whole_written (Some before) port (Some now) line count held h g w = whole_by before port now line count held (grown-all before port now h g) w
 
-pub told_whole : {S : Type 0} (held : S → Option (List ℕ)) (faults : S → ℕ) (o : Outcome) (first sink now : S) (e : Ending) (status : ℕ) (outcome : Option Outcome)
-    → Records held faults first o.port sink → any_failed o.port ≡ false → e ≡ ending_of o
-    → status ≡ status_on (faults now) e.status → outcome ≡ Some o → HasPut (held sink) e.line (faults now) (held now) → IsTold o (end_on held faults first now status outcome)
-told_whole held faults o first sink now e status outcome records whole ending s is w = record {
+pub told_whole : {S : Type 0} (held : S → Option (List ℕ)) (faults : S → ℕ) (log : Bool) (o : Outcome) (first sink now : S) (e : Ending) (status : ℕ) (outcome : Option Outcome)
+    → Records held faults first o.port sink → any_failed o.port ≡ false → e ≡ record { status = (ending_of o).status; line = last_bytes log o }
+    → status ≡ status_on (faults now) e.status → outcome ≡ Some o → HasPut (held sink) e.line (faults now) (held now) → IsTold log o (end_on held faults first now status outcome)
+told_whole held faults log o first sink now e status outcome records whole ending s is w = record {
   outcome_is = is;
   status_is = subst (λ (x : Ending). status ≡ status_on (faults now) x.status) ending s;
   written = subst (λ (x : Ending). HasPut (held first) (pieces o.port ++ x.line) (faults now) (held now)) ending (whole_written (held first) o.port (held sink) e.line (faults now) (held now) whole records.grew w);
@@ -104,21 +104,21 @@ cut_at held faults o first sink now status outcome records none s e is = record 
 }
 
 -- the outcome of a run, which was told or which memory stopped before
-pub told_run : {S : Type 0} (held : S → Option (List ℕ)) (faults : S → ℕ) (p : Program) (seed steps engines : ℕ) (o : Outcome) (first now : S) (status : ℕ) (outcome : Option Outcome)
+pub told_run : {S : Type 0} (held : S → Option (List ℕ)) (faults : S → ℕ) (p : Program) (seed steps engines : ℕ) (log : Bool) (o : Outcome) (first now : S) (status : ℕ) (outcome : Option Outcome)
     → IsRunOf p seed steps engines o
-    → IsCutAt o (end_on held faults first now status outcome) ⊎ IsTold o (end_on held faults first now status outcome)
-    → IsRunEnd p seed steps engines (end_on held faults first now status outcome)
-told_run held faults p seed steps engines o first now status outcome run (inl cut) =
+    → IsCutAt o (end_on held faults first now status outcome) ⊎ IsTold log o (end_on held faults first now status outcome)
+    → IsRunEnd p seed steps engines log (end_on held faults first now status outcome)
+told_run held faults p seed steps engines log o first now status outcome run (inl cut) =
     inr (inr (record { ran = o; going = run.sound.going; workers = run.workers; is_cut = cut }))
-told_run held faults p seed steps engines o first now status outcome run (inr told) =
+told_run held faults p seed steps engines log o first now status outcome run (inr told) =
     inr (inl (record { ran = o; is_run = run; is_told = told }))
 
 -- a run that has no outcome: nothing was written, or what its port wrote
-pub short_run : {S : Type 0} (held : S → Option (List ℕ)) (faults : S → ℕ) (p : Program) (seed steps engines : ℕ) (first sink now : S) (status : ℕ) (outcome : Option Outcome)
+pub short_run : {S : Type 0} (held : S → Option (List ℕ)) (faults : S → ℕ) (p : Program) (seed steps engines : ℕ) (log : Bool) (first sink now : S) (status : ℕ) (outcome : Option Outcome)
     → ((o : Outcome) × HasRunTo held faults (setup p steps) steps engines first sink o) ⊎ (sink ≡ first)
     → faults first ≡ 0 → status ≡ 70 → outcome ≡ None → now ≡ sink
-    → IsRunEnd p seed steps engines (end_on held faults first now status outcome)
-short_run held faults p seed steps engines first sink now status outcome (inl r) none s e is =
+    → IsRunEnd p seed steps engines log (end_on held faults first now status outcome)
+short_run held faults p seed steps engines log first sink now status outcome (inl r) none s e is =
     inr (inr (record { ran = r.0; going = r.1.going; workers = r.1.workers; is_cut = cut_at held faults r.0 first sink now status outcome r.1.records none s e is }))
-short_run held faults p seed steps engines first sink now status outcome (inr same) none s e is =
+short_run held faults p seed steps engines log first sink now status outcome (inr same) none s e is =
     inl (record { status_is = s; none = e; faultless = ap faults (is ∙ same) ∙ none; untouched = ap held (is ∙ same) })

@@ -18,7 +18,7 @@ pub record IsUsageEnd (words : List (List ℕ)) (f : FileUse) (e : CallEnd) : Ty
 -- program.
 abbrev pub IsCommandEnd : Command → FileUse → CallEnd → Type 0
 IsCommandEnd (Check file) f e = IsLoadEnd file false f (λ p. IsShort e ⊎ IsAnswer (accepted_line p) e) e
-IsCommandEnd (Sim file steps engines seed) f e = IsLoadEnd file true f (λ p. IsRunEnd p seed steps engines e) e
+IsCommandEnd (Sim file steps engines seed log) f e = IsLoadEnd file true f (λ p. IsRunEnd p seed steps engines log e) e
 IsCommandEnd (Gen items) f e = AreUnused f × (IsShort e ⊎ IsAnswer (program_of items) e)
 
 -- The words are this command, which was done.

@@ -1,11 +1,12 @@
 -- What a call wrote on a sink whose count of faults was 0, and how it ended.
-use Rattle.std.specs.Prelude.{◌≡◌, ◌⊎◌, ℕ, zero, suc, List, ◌++◌, take, Option, Some, None}
+use Rattle.std.specs.Prelude.{◌≡◌, ◌⊎◌, ℕ, zero, suc, Bool, true, false, List, [], ◌++◌, take, Option, Some, None, codes}
 use Rattle.cp_call.specs.declared.outcome.Outcome.{Outcome}
 use Rattle.cp_call.specs.Sound.{Going}
 use Rattle.cp_out.specs.Port.{pieces}
 use Rattle.cp_code.specs.declared.program.Program.{Program}
 use Rattle.cp_schedule.specs.Ended.{IsOfWorkers}
 use Rattle.cp_simulate.specs.Runs.{setup, IsRunOf}
+use Rattle.cp_log_text.specs.Log.{log_text}
 use Rattle.cp_top.specs.Ending.{ending_of}
 
 -- How a call ended: its status, the outcome where there is one, and its sink: how often it has failed, what it held at first,
@@ -64,12 +65,21 @@ pub record IsShort (e : CallEnd) : Type 0 where
 
 -- ---- a program was run
 
--- A run with this outcome was told: the pieces of its port were written, and then the last line. A sink that failed has a
--- beginning of these, with the line of a sink that did not.
-pub record IsTold (o : Outcome) (e : CallEnd) : Type 0 where
+-- what `--log` adds behind the last line: a newline, the line `%LOG`, and the log of the run
+abbrev pub log_bytes : (log : Bool) → Outcome → List ℕ
+log_bytes false o = []
+log_bytes true o = codes "\n%LOG\n" ++ log_text o
+
+-- the last line, and what is wanted behind it
+abbrev pub last_bytes : (log : Bool) → Outcome → List ℕ
+last_bytes log o = (ending_of o).line ++ log_bytes log o
+
+-- A run with this outcome was told: the pieces of its port were written, then the last line, and then the log where it is
+-- wanted. A sink that failed has a beginning of these, with the line of a sink that did not.
+pub record IsTold (log : Bool) (o : Outcome) (e : CallEnd) : Type 0 where
   pub outcome_is : e.outcome ≡ Some o
   pub status_is : e.status ≡ status_on e.failures (ending_of o).status
-  pub written : IsWritten (pieces o.port ++ (ending_of o).line) e
+  pub written : IsWritten (pieces o.port ++ last_bytes log o) e
 
 -- Memory stopped a run that had come to this outcome, or the telling of it: what its port wrote was written, and nothing
 -- more.
@@ -79,10 +89,10 @@ pub record IsCutAt (o : Outcome) (e : CallEnd) : Type 0 where
   pub written : IsWritten (pieces o.port) e
 
 -- A run of the program to its end, which was told.
-pub record IsToldRun (p : Program) (seed steps engines : ℕ) (e : CallEnd) : Type 0 where
+pub record IsToldRun (p : Program) (seed steps engines : ℕ) (log : Bool) (e : CallEnd) : Type 0 where
   pub ran : Outcome
   pub is_run : IsRunOf p seed steps engines ran
-  pub is_told : IsTold ran e
+  pub is_told : IsTold log ran e
 
 -- A run of the program, or the telling of it, that memory stopped.
 pub record IsCut (p : Program) (steps engines : ℕ) (e : CallEnd) : Type 0 where
@@ -91,6 +101,6 @@ pub record IsCut (p : Program) (steps engines : ℕ) (e : CallEnd) : Type 0 wher
   pub workers : IsOfWorkers steps engines ran
   pub is_cut : IsCutAt ran e
 
--- the program was run, unless memory was short
-abbrev pub IsRunEnd : Program → (seed steps engines : ℕ) → CallEnd → Type 0
-IsRunEnd p seed steps engines e = IsShort e ⊎ IsToldRun p seed steps engines e ⊎ IsCut p steps engines e
+-- the program was run, unless memory was short, and its log was written where it was wanted
+abbrev pub IsRunEnd : Program → (seed steps engines : ℕ) → (log : Bool) → CallEnd → Type 0
+IsRunEnd p seed steps engines log e = IsShort e ⊎ IsToldRun p seed steps engines log e ⊎ IsCut p steps engines e

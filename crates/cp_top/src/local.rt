@@ -43,11 +43,13 @@ fn run_command<F: Files, S: Sink>(alloc: Global, command: Command, files: &mut F
             steps,
             engines,
             seed,
+            log,
         } => {
             let settings = Settings {
                 steps,
                 engines,
                 seed,
+                log,
             };
             sim(alloc, files, file.as_slice(), settings, out)
         }
@@ -80,6 +82,8 @@ fn run_words<F: Files, S: Sink>(alloc: Global, words: &Words, files: &mut F, out
 /// - For `sim` 4, `{STEPS: goal 1}`: goal 1 used up its steps; 3, `{SUSPENDED: goal 1 on NAME}`: it has not ended; 2,
 ///   `{UNCAUGHT: BALL}`: it ended by a ball; 1, `{FAILED: goal 1}`: it failed.
 /// - 0: for `check` with `{ACCEPTED: M modules, C clauses, S shared}`.
+///
+/// With `--log`, a newline, the line `%LOG` and the log of the run follow the line.
 pub fn local_top<F: Files, S: Sink>(
     alloc: Global,
     words: &Words,

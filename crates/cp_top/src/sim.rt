@@ -13,24 +13,26 @@ use cp_schedule::SimEnd;
 use cp_simulate::simulate;
 use std::alloc::Global;
 
-/// How a program is to be run: the budget of steps of each goal, how many engines, and the seed of the schedule.
+/// How a program is to be run: the budget of steps of each goal, how many engines, the seed of the schedule, and whether the
+/// log is wanted.
 #[derive(Clone, Copy)]
 pub(crate) struct Settings {
     pub steps: u32,
     pub engines: u32,
     pub seed: u64,
+    pub log: bool,
 }
 
 /// Runs an accepted program and tells the run.
-fn run<S: Sink>(alloc: Global, code: &ProgramCode, seed: u64, engines: u32, out: S) -> Told<S>
+fn run<S: Sink>(alloc: Global, code: &ProgramCode, settings: Settings, out: S) -> Told<S>
     requires faultless { S.faults out ≡ 0 }
     requires safe { IsSafe code.now.program }
-    ensures { IsRunEnd code.now.program seed code.now.steps engines (end_on S.held S.faults out result.out result.status result.outcome) }
+    ensures { IsRunEnd code.now.program settings.seed code.now.steps settings.engines settings.log (end_on S.held S.faults out result.out result.status result.outcome) }
 {
-    let SimEnd { outcome, sink } = simulate(alloc, code, seed, engines, out);
+    let SimEnd { outcome, sink } = simulate(alloc, code, settings.seed, settings.engines, out);
     match outcome {
         None => short(sink),
-        Some(outcome) => tell(alloc, outcome, sink),
+        Some(outcome) => tell(alloc, outcome, settings.log, sink),
     }
 }
 
@@ -43,7 +45,7 @@ pub(crate) fn sim<F: Files, S: Sink>(
     out: S,
 ) -> Told<S>
     requires { S.faults out ≡ 0 }
-    ensures ending { IsLoadEnd file.now true (use_of F.tree F.faults F.misses files.old files.new) (λ p. IsRunEnd p settings.seed settings.steps settings.engines (end_on S.held S.faults out result.out result.status result.outcome)) (end_on S.held S.faults out result.out result.status result.outcome) }
+    ensures ending { IsLoadEnd file.now true (use_of F.tree F.faults F.misses files.old files.new) (λ p. IsRunEnd p settings.seed settings.steps settings.engines settings.log (end_on S.held S.faults out result.out result.status result.outcome)) (end_on S.held S.faults out result.out result.status result.outcome) }
     ensures tree { F.tree files.new ≡ F.tree files.old }
 {
     match load(alloc, files, file, Need { main: true }) {
@@ -53,7 +55,7 @@ pub(crate) fn sim<F: Files, S: Sink>(
                 program,
                 steps: settings.steps,
             };
-            run(alloc, &code, settings.seed, settings.engines, out)
+            run(alloc, &code, settings, out)
         }
     }
 }

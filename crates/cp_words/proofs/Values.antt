@@ -149,9 +149,9 @@ sim_rows app words file s e d rows ea ew er hs he hd = go (option_word steps s h
         }
 
 -- the command of values that are read
-pub sim_is : (file read : Text) (s e d : Option ℕ) (steps engines seed : ℕ) → file ≡ read → s ≡ Some steps → e ≡ Some engines → d ≡ Some seed
-    → sim_from (Some file) s e d ≡ Some (Sim read steps engines seed)
-sim_is file read s e d steps engines seed ef es ee ed = λ i. sim_from (Some (ef i)) (es i) (ee i) (ed i)
+pub sim_is : (file read : Text) (s e d : Option ℕ) (steps engines seed : ℕ) (log : Bool) → file ≡ read → s ≡ Some steps → e ≡ Some engines → d ≡ Some seed
+    → sim_from (Some file) s e d (Some log) ≡ Some (Sim read steps engines seed log)
+sim_is file read s e d steps engines seed log ef es ee ed = λ i. sim_from (Some (ef i)) (es i) (ee i) (ed i) (Some log)
 
 pub same_text : (a b : Text) (o : Option Text) → o ≡ Some a → o ≡ Some b → a ≡ b
 same_text a b o ea eb = cc

@@ -3,12 +3,12 @@
 --
 --     check FILE
 --     sim FILE    --steps=N (1 to 10,000,000; 1,000,000), --engines=N (1 to 32; 16),
---                 --seed=N (0 to 18,446,744,073,709,551,615; 0)
+--                 --seed=N (0 to 18,446,744,073,709,551,615; 0), --log
 --     gen N       N from 1 to 100,000
-use Rattle.std.specs.Prelude.{◌≡◌, ◌⊎◌, ℕ, if◌then◌else◌, List, [], ◌∷◌, Option, Some, None, option_and_then, codes}
+use Rattle.std.specs.Prelude.{◌≡◌, ◌⊎◌, ℕ, Bool, if◌then◌else◌, List, [], ◌∷◌, Option, Some, None, option_and_then, codes}
 use Rattle.std.specs.List.{All}
 use Rattle.std.specs.Str.{IsUtf8, bytes_eq}
-use Rattle.cp_words.specs.Words.{NumberOption, number_in, number_of, positional_of, are_known}
+use Rattle.cp_words.specs.Words.{NumberOption, number_in, number_of, flag_of, positional_of, are_known}
 use Rattle.cp_words.specs.declared.command.Command.{Command}
 use Rattle.cp_words.specs.declared.command.Command.TheVariants.{Check, Sim, Gen}
 
@@ -24,13 +24,16 @@ seed = record { beginning = codes "--seed="; least = 0; most = 18446744073709551
 abbrev pub sim_options : List NumberOption
 sim_options = steps ∷ engines ∷ seed ∷ []
 
+abbrev pub log : List ℕ
+log = codes "--log"
+
 abbrev pub check_from : Option (List ℕ) → Option Command
 check_from (Some file) = Some (Check file)
 check_from None = None
 
-abbrev pub sim_from : Option (List ℕ) → Option ℕ → Option ℕ → Option ℕ → Option Command
-sim_from (Some file) (Some steps) (Some engines) (Some seed) = Some (Sim file steps engines seed)
-sim_from _ _ _ _ = None
+abbrev pub sim_from : Option (List ℕ) → Option ℕ → Option ℕ → Option ℕ → Option Bool → Option Command
+sim_from (Some file) (Some steps) (Some engines) (Some seed) (Some log) = Some (Sim file steps engines seed log)
+sim_from _ _ _ _ _ = None
 
 abbrev pub gen_from : Option ℕ → Option Command
 gen_from (Some items) = Some (Gen items)
@@ -38,16 +41,17 @@ gen_from None = None
 
 -- the words after `check`, `sim` and `gen`
 abbrev pub check_in : List (List ℕ) → Option Command
-check_in words = if are_known [] words then check_from (positional_of words) else None
+check_in words = if are_known [] [] words then check_from (positional_of words) else None
 
 abbrev pub sim_in : List (List ℕ) → Option Command
 sim_in words =
-    if are_known sim_options words
-    then sim_from (positional_of words) (number_of steps words) (number_of engines words) (number_of seed words) else None
+    if are_known sim_options (log ∷ []) words
+    then sim_from (positional_of words) (number_of steps words) (number_of engines words) (number_of seed words) (flag_of log words)
+    else None
 
 abbrev pub gen_in : List (List ℕ) → Option Command
 gen_in words =
-    if are_known [] words then gen_from (option_and_then (number_in 1 100000) (positional_of words)) else None
+    if are_known [] [] words then gen_from (option_and_then (number_in 1 100000) (positional_of words)) else None
 
 -- the command of a command word and the words after it
 abbrev pub command_by : List ℕ → List (List ℕ) → Option Command

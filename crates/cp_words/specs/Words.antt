@@ -1,7 +1,8 @@
 -- Words of a command line: positional words, options and numbers. The rules are this project's own.
-use Rattle.std.specs.Prelude.{ℕ, ◌==◌, ◌&&◌, ◌||◌, Bool, false, not, nat_lt, nat_le, nat_eq, if◌then◌else◌, List, [], ◌∷◌, length, drop, count_by, find, Option, Some, None, unwrap_or, option_and_then}
+use Rattle.std.specs.Prelude.{ℕ, zero, suc, ◌==◌, ◌&&◌, ◌||◌, Bool, true, false, not, nat_lt, nat_le, nat_eq, if◌then◌else◌, List, [], ◌∷◌, length, drop, count_by, find, Option, Some, None, unwrap_or, option_and_then}
 use Rattle.std.specs.List.{starts_with, list_all, list_any}
 use Rattle.std.specs.Char.{is_ascii_digit}
+use Rattle.std.specs.Str.{bytes_eq}
 use Rattle.std.specs.Str.Parse.{digits_value}
 
 -- not empty, and not beginning with `-`
@@ -48,6 +49,20 @@ number_of o words = option_and_then (number_by o) (word_of o words)
 abbrev pub positional_of : List (List ℕ) → Option (List ℕ)
 positional_of words = if count_by is_positional words == 1 then find is_positional words else None
 
+-- an option without a value, which is one word
+abbrev pub is_flag : (flag word : List ℕ) → Bool
+is_flag flag word = bytes_eq word flag
+
+abbrev pub is_once : ℕ → Option Bool
+is_once zero = Some false
+is_once (suc zero) = Some true
+is_once (suc (suc n)) = None
+
+-- whether the words have this option, which may stand once
+abbrev pub flag_of : (flag : List ℕ) → List (List ℕ) → Option Bool
+flag_of flag words = is_once (count_by (is_flag flag) words)
+
 -- each word is positional or one of these options
-abbrev pub are_known : List NumberOption → List (List ℕ) → Bool
-are_known options words = list_all (λ word. is_positional word || list_any (λ o. is_of o word) options) words
+abbrev pub are_known : List NumberOption → (flags : List (List ℕ)) → List (List ℕ) → Bool
+are_known options flags words =
+    list_all (λ word. is_positional word || list_any (λ o. is_of o word) options || list_any (λ f. is_flag f word) flags) words

@@ -30,7 +30,7 @@ pub(crate) fn check_of(alloc: Global, words: &[Bytes]) -> Result<Command, WordsE
     requires { All IsUtf8 words.now }
     ensures { MatchResult result (λ command. check_in words.now ≡ Some command) (λ e. e ≡ WordsError.Usage → check_in words.now ≡ None) }
 {
-    if !are_known(&[], words) {
+    if !are_known(&[], &[], words) {
         return Err(WordsError::Usage);
     }
     match positional_of(words) {

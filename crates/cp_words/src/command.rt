@@ -14,13 +14,14 @@ pub enum Command {
     Check {
         file: Bytes,
     },
-    /// Run a file on one thread: at most so many steps for each goal (1 to 10,000,000), so many engines (1 to 32), and the
-    /// seed of the schedule.
+    /// Run a file on one thread: at most so many steps for each goal (1 to 10,000,000), so many engines (1 to 32), the seed
+    /// of the schedule, and whether the log of the run is written.
     Sim {
         file: Bytes,
         steps: u32,
         engines: u32,
         seed: u64,
+        log: bool,
     },
     /// Write the generated program with so many items (1 to 100,000).
     Gen {

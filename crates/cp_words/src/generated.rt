@@ -36,7 +36,7 @@ pub(crate) fn gen_of(alloc: Global, words: &[Bytes]) -> Result<Command, WordsErr
     requires { All IsUtf8 words.now }
     ensures { MatchResult result (λ command. gen_in words.now ≡ Some command) (λ e. e ≡ WordsError.Usage → gen_in words.now ≡ None) }
 {
-    if !are_known(&[], words) {
+    if !are_known(&[], &[], words) {
         return Err(WordsError::Usage);
     }
     match positional_of(words) {

@@ -3,6 +3,7 @@
 
 mod check;
 mod command;
+mod flag;
 mod generated;
 mod grammar;
 mod number;

@@ -1,9 +1,10 @@
 ghost use Rattle.std.specs.Prelude.{◌≡◌, ◌||◌, true, is_some, option_map, map, count_by, find, MatchOption, None};
 ghost use Rattle.std.specs.List.{All, list_any};
 ghost use Rattle.std.specs.Str.{IsUtf8};
-ghost use Rattle.cp_words.specs.Words.{is_of, number_by, number_of, word_of, are_known, is_positional};
+ghost use Rattle.cp_words.specs.Words.{is_of, number_by, number_of, word_of, are_known, is_positional, is_flag};
 ghost use Rattle.cp_words.specs.Options.{row_of};
 
+use crate::flag::is_one_of;
 use crate::number::is_number_in;
 use crate::positional::is_positional;
 use crate::text::text_of;
@@ -94,15 +95,17 @@ fn is_option(options: &[NumberOption], word: &[u8]) -> bool
 }
 
 /// Whether the word is positional or one of these options.
-fn is_known(options: &[NumberOption], word: &[u8]) -> bool
-    ensures { result ≡ (is_positional word.now || list_any (λ o. is_of o word.now) (map row_of options.now)) }
+fn is_known(options: &[NumberOption], flags: &[&[u8]], word: &[u8]) -> bool
+    ensures { result ≡ (is_positional word.now || list_any (λ o. is_of o word.now) (map row_of options.now) || list_any (λ f. is_flag f word.now) (map (λ f. f.now) flags.now)) }
 {
-    is_positional(word) || is_option(options, word)
+    is_positional(word) || is_option(options, word) || is_one_of(flags, word)
 }
 
 /// Whether each word is positional or one of these options.
-pub(crate) fn are_known(options: &[NumberOption], words: &[Bytes]) -> bool
-    ensures { result ≡ are_known (map row_of options.now) words.now }
+pub(crate) fn are_known(options: &[NumberOption], flags: &[&[u8]], words: &[Bytes]) -> bool
+    ensures { result ≡ are_known (map row_of options.now) (map (λ f. f.now) flags.now) words.now }
 {
-    words.iter().all(|word| is_known(options, word.as_slice()))
+    words
+        .iter()
+        .all(|word| is_known(options, flags, word.as_slice()))
 }

@@ -5,6 +5,7 @@ ghost use Rattle.cp_words.specs.Words.{number_by};
 ghost use Rattle.cp_words.specs.Commands.{steps, engines, seed, sim_from, sim_in};
 
 use crate::command::{Command, WordsError};
+use crate::flag::flag_in;
 use crate::option::{NumberOption, are_known};
 use crate::positional::positional_of;
 use crate::reader::{matches_of, sim_reader, str_of, u32_of, u64_of};
@@ -32,13 +33,17 @@ const SEED: NumberOption = NumberOption {
     default: "--seed=0",
 };
 
-/// The words of `sim`: the file's, and one for each option.
+/// The option without a value.
+const LOG: &[u8] = b"--log";
+
+/// The words of `sim`: the file's, one for each option with a number, and whether the log is wanted.
 #[derive(Clone, Copy)]
 struct SimWords<'a> {
     file: &'a str,
     steps: &'a str,
     engines: &'a str,
     seed: &'a str,
+    log: bool,
 }
 
 /// The words after `sim`, by what they give.
@@ -48,20 +53,22 @@ fn sim_words(words: &[Bytes]) -> Option<SimWords<'_>>
         (is_some (number_by steps w.steps.now) ≡ true)
         × (is_some (number_by engines w.engines.now) ≡ true)
         × (is_some (number_by seed w.seed.now) ≡ true)
-        × (sim_in words.now ≡ sim_from (Some w.file.now) (number_by steps w.steps.now) (number_by engines w.engines.now) (number_by seed w.seed.now))) }
+        × (sim_in words.now ≡ sim_from (Some w.file.now) (number_by steps w.steps.now) (number_by engines w.engines.now) (number_by seed w.seed.now) (Some w.log))) }
 {
-    if !are_known(&[STEPS, ENGINES, SEED], words) {
+    if !are_known(&[STEPS, ENGINES, SEED], &[LOG], words) {
         return None;
     }
     let file = positional_of(words)?;
     let steps = STEPS.word_in(words)?;
     let engines = ENGINES.word_in(words)?;
     let seed = SEED.word_in(words)?;
+    let log = flag_in(LOG, words)?;
     Some(SimWords {
         file,
         steps,
         engines,
         seed,
+        log,
     })
 }
 
@@ -70,7 +77,7 @@ fn read_sim(alloc: Global, words: &SimWords<'_>) -> Result<Command, WordsError>
     requires steps { is_some (number_by steps words.now.steps.now) ≡ true }
     requires engines { is_some (number_by engines words.now.engines.now) ≡ true }
     requires seed { is_some (number_by seed words.now.seed.now) ≡ true }
-    ensures ok { IfOk result (λ command. sim_from (Some words.now.file.now) (number_by steps words.now.steps.now) (number_by engines words.now.engines.now) (number_by seed words.now.seed.now) ≡ Some command) }
+    ensures ok { IfOk result (λ command. sim_from (Some words.now.file.now) (number_by steps words.now.steps.now) (number_by engines words.now.engines.now) (number_by seed words.now.seed.now) (Some words.now.log) ≡ Some command) }
     ensures err { IfErr result (λ e. e ≡ WordsError.NoMemory) }
 {
     let list = [
@@ -88,6 +95,7 @@ fn read_sim(alloc: Global, words: &SimWords<'_>) -> Result<Command, WordsError>
             steps: u32_of(&matches, "steps"),
             engines: u32_of(&matches, "engines"),
             seed: u64_of(&matches, "seed"),
+            log: words.log,
         }),
         Err(error) => Err(error),
     }

@@ -6,7 +6,7 @@ use std::test::Fail;
 /// What words are wanted to be.
 enum Wanted {
     Check(&'static [u8]),
-    Sim(&'static [u8], u32, u32, u64),
+    Sim(&'static [u8], u32, u32, u64, bool),
     Gen(u32),
     Usage,
 }
@@ -30,10 +30,15 @@ fn is_wanted(command: &Command, wanted: &Wanted) -> bool {
                 steps,
                 engines,
                 seed,
+                log,
             },
-            Sim(name, most, number, start),
+            Sim(name, most, number, start, logged),
         ) => {
-            file.as_slice() == *name && *steps == *most && *engines == *number && *seed == *start
+            file.as_slice() == *name
+                && *steps == *most
+                && *engines == *number
+                && *seed == *start
+                && *log == *logged
         }
         (Command::Gen { items }, Gen(number)) => *items == *number,
         _ => false,
@@ -50,7 +55,7 @@ fn are(alloc: Global, words: &[&[u8]], wanted: &Wanted) -> Result<bool, AllocErr
     }
 }
 
-const TABLE: [(&[&[u8]], Wanted); 24] = [
+const TABLE: [(&[&[u8]], Wanted); 28] = [
     (&[], Usage),
     (&[b"check", b"m.pl"], Check(b"m.pl")),
     (&[b"check", b"help"], Check(b"help")),
@@ -59,7 +64,7 @@ const TABLE: [(&[&[u8]], Wanted); 24] = [
     (&[b"check", b""], Usage),
     (&[b"check", b"--help"], Usage),
     (&[b"check", b"\xff"], Usage),
-    (&[b"sim", b"m.pl"], Sim(b"m.pl", 1000000, 16, 0)),
+    (&[b"sim", b"m.pl"], Sim(b"m.pl", 1000000, 16, 0, false)),
     (
         &[
             b"sim",
@@ -68,8 +73,15 @@ const TABLE: [(&[&[u8]], Wanted); 24] = [
             b"--engines=32",
             b"--steps=1",
         ],
-        Sim(b"m.pl", 1, 32, 18446744073709551615),
+        Sim(b"m.pl", 1, 32, 18446744073709551615, false),
     ),
+    (
+        &[b"sim", b"--log", b"m.pl"],
+        Sim(b"m.pl", 1000000, 16, 0, true),
+    ),
+    (&[b"sim", b"--log", b"m.pl", b"--log"], Usage),
+    (&[b"sim", b"m.pl", b"--log=1"], Usage),
+    (&[b"check", b"m.pl", b"--log"], Usage),
     (&[b"sim", b"m.pl", b"--seed=18446744073709551616"], Usage),
     (&[b"sim", b"m.pl", b"--steps=10000001"], Usage),
     (&[b"sim", b"m.pl", b"--steps=0"], Usage),

@@ -48,6 +48,6 @@ returns-in_ok-bytes_of-in-Ok-clause-ok c =
     let rows = sim_rows _ _ w.file.now w.steps.now w.engines.now w.seed.now (rows_of (found_of c.in-Ok.matches)) c.in_ok-reader.ensures words_are c.in-Ok.ensures.ok
     c.requires.steps c.requires.engines c.requires.seed in
     let read = same_text w.file.now c.str_of.result.now _ rows.file_is c.str_of.ensures in
-    sim_is w.file.now c.in_ok-bytes_of-in-Ok.field-0 _ _ _ c.u32_of.result c.u32_of-in-Ok.result c.u64_of.result
+    sim_is w.file.now c.in_ok-bytes_of-in-Ok.field-0 _ _ _ c.u32_of.result c.u32_of-in-Ok.result c.u64_of.result w.log
     (read ∙ (sym c.as_bytes.ensures.value ∙ sym c.in_ok-bytes_of-in-Ok.ensures))
     (sym rows.steps_is ∙ c.u32_of.ensures) (sym rows.engines_is ∙ c.u32_of-in-Ok.ensures) (sym rows.seed_is ∙ c.u64_of.ensures)

@@ -1,0 +1,5 @@
+pub mod Parts
+pub mod Texts
+pub mod Cuts
+pub mod Elements
+pub mod Rows

@@ -1,0 +1,5 @@
+use Rattle.cp_log_text.proofs.Parts.{same, first}
+use Rattle.cp_log_text.proofs.remote.add_term.Goals as goal
+
+pub returns : goal.returns
+returns c = same (first c.in_ok-functor.ensures c.in_ok-term.ensures) (cc)
