@@ -1,25 +1,28 @@
 ghost use Rattle.std.specs.Prelude.{◌≡◌, IfOk};
-ghost use Rattle.cp_link.specs.Modules.{said};
+ghost use Rattle.cp_link.specs.Modules.{said, shared_in};
 ghost use Rattle.cp_link.specs.Linked.{kind_in, shared_kind, suspends, suspends_by};
 
 use crate::objects::Objects;
 use cp_code::PredKind;
 use cp_declaration::{Declaration, Indicator};
-use cp_link::{in_module, is_in, is_shared, name_of, said};
+use cp_link::{in_module, is_in, name_of, said};
 use cp_module::ModulePart;
 use cp_read::ReadClause;
 use std::alloc::{AllocError, Global};
 
-/// What kind of predicate a file makes of one of its own, where these are the shared predicates of the program.
+/// What kind of predicate a file makes of one of its own, where these are the shared predicates of the program, and these those
+/// of the file.
 pub(crate) fn kind_in(
     alloc: Global,
     shared: &Objects,
     part: &ModulePart,
+    own: &[Indicator],
     pred: &Indicator,
 ) -> Result<PredKind, AllocError>
+    requires { own.now ≡ shared_in part.now.clauses }
     ensures { IfOk result (λ kind. kind ≡ kind_in shared.now part.now pred.now) }
 {
-    if !is_shared(alloc, part.clauses().as_slice(), pred)? {
+    if !is_in(own, pred) {
         return Ok(PredKind::Rules);
     }
     let waits = suspends(alloc, part.clauses().as_slice(), pred)?;
