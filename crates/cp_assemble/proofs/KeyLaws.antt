@@ -11,13 +11,13 @@ use Rattle.indexmap.specs.IndexMap.{insert_entry}
 use Rattle.cp_declaration.specs.declared.indicator.Indicator.{Indicator}
 use Rattle.cp_module.specs.Causes.{same}
 use Rattle.cp_assemble.specs.declared.places.Key.{Key}
-use Rattle.cp_assemble.specs.Index.{places_in}
+use Rattle.cp_assemble.specs.Index.{places_in, places_or}
 use Rattle.cp_assemble.specs.Rows.{named, row_of}
 
 abbrev pub same_key : Key → Key → Bool
 same_key k e = bytes_eq k.name e.name && nat_eq k.arity e.arity
 
-same-is : (p q : Indicator) → same p q ≡ true → p ≡ q
+pub same-is : (p q : Indicator) → same p q ≡ true → p ≡ q
 same-is p q h =
     let parts = and_parts (bytes_eq p.name q.name) (nat_eq p.arity q.arity) h in
     let n : p.name ≡ q.name = (bytes_eq-Decides p.name q.name).0 parts.0 in
@@ -51,11 +51,6 @@ inserted k v (e ∷ es) p = go (same_key k e.0) refl (inserted k v es p)
         ap (λ x. if same p (named e.0) then e.1 else x) ih
         ∙ apart (same p (named e.0)) (same p (named k)) v e.1 (places_in (map row_of es) p)
         (λ at_e at_k. false≢true (sym h ∙ ap (λ q. same (named k) q) (sym (same-is p (named e.0) at_e)) ∙ ap (λ q. same q p) (sym (same-is p (named k) at_k)) ∙ same-self p))
-
--- the places where a table has a row, and none where it has not
-abbrev pub places_or : Option (List ℕ) → List ℕ
-places_or None = []
-places_or (Some places) = places
 
 pub looked_up : (k : Key) (es : List (Key × List ℕ)) → places_or (lookup (same_key k) es) ≡ places_in (map row_of es) (named k)
 looked_up k [] = refl

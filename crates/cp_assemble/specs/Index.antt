@@ -22,6 +22,11 @@ abbrev pub places_in : List Row → Indicator → List ℕ
 places_in [] p = []
 places_in (r ∷ rows) p = if same p r.pred then r.places else places_in rows p
 
+-- the places where a table has a row, and none where it has not
+abbrev pub places_or : Option (List ℕ) → List ℕ
+places_or None = []
+places_or (Some places) = places
+
 -- the places of the clauses of a predicate among these, which are numbered from n
 abbrev pub places_of : ℕ → List ReadClause → Indicator → List ℕ
 places_of n [] p = []

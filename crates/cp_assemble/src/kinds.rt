@@ -1,4 +1,5 @@
 ghost use Rattle.std.specs.Prelude.{◌≡◌, IfOk};
+ghost use Rattle.cp_module.specs.Causes.{is_shared};
 ghost use Rattle.cp_link.specs.Modules.{said, shared_in};
 ghost use Rattle.cp_link.specs.Linked.{kind_in, shared_kind, suspends, suspends_by};
 
@@ -22,13 +23,22 @@ pub(crate) fn kind_in(
     requires { own.now ≡ shared_in part.now.clauses }
     ensures { IfOk result (λ kind. kind ≡ kind_in shared.now part.now pred.now) }
 {
-    if !is_in(own, pred) {
+    if !is_shared(part, own, pred) {
         return Ok(PredKind::Rules);
     }
     let waits = suspends(alloc, part.clauses().as_slice(), pred)?;
     let name = name_of(alloc, part)?;
     let object = shared.object_of(&in_module(&name, pred)?);
     Ok(shared_kind(waits, object))
+}
+
+/// Whether a predicate is among those that a file declares to be shared.
+fn is_shared(part: &ModulePart, own: &[Indicator], pred: &Indicator) -> bool
+    requires { own.now ≡ shared_in part.now.clauses }
+    ensures { result ≡ is_shared part.now.clauses pred.now }
+{
+    let _part = part;
+    is_in(own, pred)
 }
 
 fn shared_kind(waits: bool, object: u32) -> PredKind

@@ -4,7 +4,7 @@ ghost use Rattle.cp_declaration.specs.declared.indicator.Indicator.{Indicator as
 ghost use Rattle.cp_module.specs.Causes.{same};
 ghost use Rattle.cp_link.specs.Modules.{one};
 ghost use Rattle.cp_link.specs.Linked.{clause_in};
-ghost use Rattle.cp_assemble.specs.Index.{places_in, places_of, place_by, pred_by};
+ghost use Rattle.cp_assemble.specs.Index.{places_in, places_or, places_of, place_by, pred_by};
 ghost use Rattle.cp_assemble.specs.Rows.{named};
 
 use cp_code::{Clause, Clauses};
@@ -96,10 +96,8 @@ impl Places {
         ensures old { IfOk result (λ old. old ≡ places_in self.old (named key)) }
     {
         let none = Numbers::new(places.alloc());
-        match self.rows.insert(key, places)? {
-            Some(old) => Ok(old),
-            None => Ok(none),
-        }
+        let old = self.rows.insert(key, places)?;
+        Ok(places_or(old, none))
     }
 
     /// The clauses that stand where those of a predicate do, as clauses of a module.
@@ -117,9 +115,23 @@ impl Places {
             arity: pred.arity,
         };
         match self.rows.get(&key) {
-            Some(places) => clauses_at(alloc, module_name, clauses, places.as_slice()),
+            Some(places) => {
+                let all = clauses_at(alloc, module_name, clauses, places.as_slice())?;
+                Ok(all)
+            }
             None => Ok(Clauses::new(alloc)),
         }
+    }
+}
+
+/// Of a predicate that is not in the table there are no places.
+fn places_or(found: Option<Numbers>, none: Numbers) -> Numbers
+    requires { none ≡ [] }
+    ensures { result ≡ places_or found }
+{
+    match found {
+        Some(places) => places,
+        None => none,
     }
 }
 
@@ -136,7 +148,8 @@ fn pred_at(
         return Ok(None);
     }
     let mut preds = own_preds(alloc, &clauses[at..at + 1])?;
-    Ok(preds.pop())
+    let found = preds.pop();
+    Ok(found)
 }
 
 /// The clauses at these places, as clauses of a module.

@@ -80,7 +80,10 @@ fn clauses_in(
     ensures { IfOk result (λ all. all ≡ map (clause_in module_name.now) (clauses_of part.now.clauses pred.now)) }
 {
     let clauses = part.clauses().as_slice();
-    index.places.clauses_of(alloc, module_name, clauses, pred)
+    let own = index
+        .places
+        .clauses_of(alloc, module_name, clauses, pred)?;
+    Ok(own)
 }
 
 /// Which arguments of a predicate the `meta_predicate` declarations of a file mark, all of them together.
@@ -94,5 +97,6 @@ fn marks_in(
     ensures { IfOk result (λ marks. marks ≡ marks_in part.now.clauses pred.now) }
 {
     let _part = part;
-    marks_among(alloc, index.markings.as_slice(), pred)
+    let marks = marks_among(alloc, index.markings.as_slice(), pred)?;
+    Ok(marks)
 }
