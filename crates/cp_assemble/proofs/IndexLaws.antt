@@ -39,9 +39,9 @@ selected : (before cs : List ReadClause) (p : Indicator) → filter_map (slice_g
 selected before [] p = refl
 selected before (c ∷ cs) p =
     let later : filter_map (slice_get (before ++ c ∷ cs)) (places_of (length before + 1) cs p) ≡ clauses_of cs p =
-        ap (λ xs. filter_map (slice_get xs) (places_of (length before + 1) cs p)) (sym (append_assoc before (c ∷ []) cs))
-        ∙ ap (λ m. filter_map (slice_get ((before ++ c ∷ []) ++ cs)) (places_of m cs p)) (sym (length-append before (c ∷ [])))
-        ∙ selected (before ++ c ∷ []) cs p in
+    ap (λ xs. filter_map (slice_get xs) (places_of (length before + 1) cs p)) (sym (append_assoc before (c ∷ []) cs))
+    ∙ ap (λ m. filter_map (slice_get ((before ++ c ∷ []) ++ cs)) (places_of m cs p)) (sym (length-append before (c ∷ [])))
+    ∙ selected (before ++ c ∷ []) cs p in
     select_one (is_clause_of p c) (before ++ c ∷ cs) (clauses_of cs p) (length before) c (places_of (length before + 1) cs p) (at_end before cs c) later
 
 pub clauses_found : (cs : List ReadClause) (p : Indicator) (places : List ℕ) → places ≡ places_of 0 cs p → filter_map (slice_get cs) places ≡ clauses_of cs p
@@ -142,6 +142,7 @@ marked (Some (declares.MetaPredicate name marks)) i cs others e = go (is_marking
   where
     m : Marking
     m = record { name = name; marks = marks }
+
     go : (b : Bool) → cond b (either_marks marks (marks_among cs i)) (marks_among cs i) ≡ either_marks (cond b marks []) others
     go true = ap (either_marks marks) e
     go false = e

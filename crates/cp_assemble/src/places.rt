@@ -1,7 +1,7 @@
-ghost use Rattle.std.specs.Prelude.{◌≡◌, ◌<◌, ◌∷◌, ◌++◌, [], length, map, slice_get, IfOk, OnOk, if◌then◌else◌};
+ghost use Rattle.std.specs.Prelude.{◌≡◌, ◌∷◌, ◌++◌, [], map, slice_get, IfOk, OnOk, if◌then◌else◌};
 ghost use Rattle.std.specs.List.{filter_map};
 ghost use Rattle.cp_declaration.specs.declared.indicator.Indicator.{Indicator as Pred};
-ghost use Rattle.cp_module.specs.Causes.{same};
+ghost use Rattle.cp_module.specs.Causes.{same, pred_of};
 ghost use Rattle.cp_link.specs.Modules.{one};
 ghost use Rattle.cp_link.specs.Linked.{clause_in};
 ghost use Rattle.cp_assemble.specs.Index.{places_in, places_or, places_of, place_by, pred_by};
@@ -65,12 +65,7 @@ impl Places {
     }
 
     /// Notes that a clause of a predicate, or a declaration, stands at a place.
-    fn note(
-        &mut self,
-        alloc: Global,
-        at: usize,
-        found: Option<Indicator>,
-    ) -> Result<(), AllocError>
+    fn note(&mut self, alloc: Global, at: usize, found: Option<Indicator>) -> Result<(), AllocError>
         ensures { OnOk result ((p : Pred) → places_in self.new p ≡ places_in self.old p ++ place_by at found p) }
     {
         match found {
@@ -135,19 +130,31 @@ fn places_or(found: Option<Numbers>, none: Numbers) -> Numbers
     }
 }
 
-/// The predicate that the clause at a place is of. A declaration is of none.
+/// The predicate that the clause at a place is of, if one stands there.
 fn pred_at(
     alloc: Global,
     clauses: &[ReadClause],
     at: usize,
 ) -> Result<Option<Indicator>, AllocError>
-    requires { at < length clauses.now }
     ensures { IfOk result (λ pred. pred ≡ pred_by (slice_get clauses.now at)) }
 {
-    if is_declaration(&clauses[at].term) {
+    match clauses.get(at) {
+        Some(clause) => {
+            let found = pred_of(alloc, clause)?;
+            Ok(found)
+        }
+        None => Ok(None),
+    }
+}
+
+/// The predicate that a clause is of. A declaration is of none.
+fn pred_of(alloc: Global, clause: &ReadClause) -> Result<Option<Indicator>, AllocError>
+    ensures { IfOk result (λ pred. pred ≡ pred_of clause.now) }
+{
+    if is_declaration(&clause.term) {
         return Ok(None);
     }
-    let mut preds = own_preds(alloc, &clauses[at..at + 1])?;
+    let mut preds = own_preds(alloc, std::slice::from_ref(clause))?;
     let found = preds.pop();
     Ok(found)
 }

@@ -80,9 +80,7 @@ fn clauses_in(
     ensures { IfOk result (λ all. all ≡ map (clause_in module_name.now) (clauses_of part.now.clauses pred.now)) }
 {
     let clauses = part.clauses().as_slice();
-    let own = index
-        .places
-        .clauses_of(alloc, module_name, clauses, pred)?;
+    let own = index.places.clauses_of(alloc, module_name, clauses, pred)?;
     Ok(own)
 }
 

@@ -13,11 +13,11 @@ returns c = λ p.
     let all = c.push.new.self in
     c.in_ok-_none.ensures.rows p
     ∙ ap (λ x. if same p pred then all else x)
-        (c.in_ok-places.ensures.rows p
-        ∙ ap (λ n. if same p (let i : Indicator = record { name = n; arity = pred.arity } in i) then c.new.result else places_in old p) c.in_ok-copy.ensures.cases
-        ∙ ap (λ none. if same p pred then none else places_in old p) c.new.ensures)
+    (c.in_ok-places.ensures.rows p
+    ∙ ap (λ n. if same p (let i : Indicator = record { name = n; arity = pred.arity } in i) then c.new.result else places_in old p) c.in_ok-copy.ensures.cases
+    ∙ ap (λ none. if same p pred then none else places_in old p) c.new.ensures)
     ∙ written_again (same p pred) all c.in_ok-places.places (places_in old p) c.args.at
-        (λ h. c.in_ok-places.ensures.old
-            ∙ ap (λ n. places_in old (let i : Indicator = record { name = n; arity = pred.arity } in i)) c.in_ok-copy.ensures.cases
-            ∙ ap (λ i. places_in old i) (sym (same-is p pred h)))
-        c.in_ok-push.ensures.ok
+    (λ h. c.in_ok-places.ensures.old
+    ∙ ap (λ n. places_in old (let i : Indicator = record { name = n; arity = pred.arity } in i)) c.in_ok-copy.ensures.cases
+    ∙ ap (λ i. places_in old i) (sym (same-is p pred h)))
+    c.in_ok-push.ensures.ok

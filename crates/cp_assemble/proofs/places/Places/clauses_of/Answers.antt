@@ -12,13 +12,13 @@ pub returns-in-Some : goal.returns-in-Some
 returns-in-Some c =
     let pred = c.args.pred.now in
     let key : Key = record { name = c.in_ok-clone.field-0; arity = pred.arity } in
-    c.in_ok-all.ensures
+    c.in_ok-all-in-Some.ensures
     ∙ ap (λ ns. map (clause_in c.args.module_name.now) (filter_map (slice_get c.args.clauses.now) ns))
-        (c.as_slice.ensures
-        ∙ ap places_or c.in-Some.ensures.value
-        ∙ looked_up key c.self.inside.rows.entries
-        ∙ ap (λ rows. places_in rows (named key)) c.self.view_is
-        ∙ ap (λ n. places_in c.args.self.now (let i : Indicator = record { name = n; arity = pred.arity } in i)) c.in_ok-clone.ensures.cases)
+    (c.as_slice.ensures
+    ∙ ap places_or c.in-Some.ensures.value
+    ∙ looked_up key c.self.inside.rows.entries
+    ∙ ap (λ rows. places_in rows (named key)) c.self.view_is
+    ∙ ap (λ n. places_in c.args.self.now (let i : Indicator = record { name = n; arity = pred.arity } in i)) c.in_ok-clone.ensures.cases)
 
 pub returns : goal.returns
 returns c =
@@ -26,7 +26,7 @@ returns c =
     let key : Key = record { name = c.in_ok-clone.field-0; arity = pred.arity } in
     c.new.ensures
     ∙ ap (λ ns. map (clause_in c.args.module_name.now) (filter_map (slice_get c.args.clauses.now) ns))
-        (ap places_or c.in-None.ensures.value
-        ∙ looked_up key c.self.inside.rows.entries
-        ∙ ap (λ rows. places_in rows (named key)) c.self.view_is
-        ∙ ap (λ n. places_in c.args.self.now (let i : Indicator = record { name = n; arity = pred.arity } in i)) c.in_ok-clone.ensures.cases)
+    (ap places_or c.in-None.ensures.value
+    ∙ looked_up key c.self.inside.rows.entries
+    ∙ ap (λ rows. places_in rows (named key)) c.self.view_is
+    ∙ ap (λ n. places_in c.args.self.now (let i : Indicator = record { name = n; arity = pred.arity } in i)) c.in_ok-clone.ensures.cases)
