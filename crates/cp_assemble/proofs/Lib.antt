@@ -1,5 +1,7 @@
 mod BodyLaws
 mod DistinctLaws
+mod IndexLaws
+mod KeyLaws
 mod LimitLaws
 mod MarkLaws
 mod ObjectLaws

@@ -5,7 +5,7 @@ use Rattle.std.proofs.lemmas.List.Elements.{filter_map-append}
 use Rattle.cp_link.specs.Modules.{one}
 use Rattle.cp_link.proofs.StepLaws.{taken}
 
-as_one : {X Y : Type 0} (h : X → Option Y) (x : X) (o : Option Y) → h x ≡ o → one (h x) ≡ filter_map h (x ∷ [])
+pub as_one : {X Y : Type 0} (h : X → Option Y) (x : X) (o : Option Y) → h x ≡ o → one (h x) ≡ filter_map h (x ∷ [])
 as_one h x None e = cc
 as_one h x (Some y) e = cc
 

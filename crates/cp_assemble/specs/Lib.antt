@@ -1,2 +1,5 @@
 pub mod Answers
 pub mod Given
+pub mod Index
+pub mod Indexed
+pub mod Rows

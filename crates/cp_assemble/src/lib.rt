@@ -4,11 +4,13 @@
 mod active;
 mod assembling;
 mod imports;
+mod index;
 mod kinds;
 mod linking;
 mod marks;
 mod modules;
 mod objects;
+mod places;
 mod preds;
 mod remote;
 mod types;

@@ -1,44 +1,75 @@
-ghost use Rattle.std.specs.Prelude.{◌≡◌, ◌++◌, IfOk, OnOk};
-ghost use Rattle.cp_link.specs.Modules.{said};
-ghost use Rattle.cp_link.specs.Linked.{marks_in, marks_by, either_marks};
+ghost use Rattle.std.specs.Prelude.{◌≡◌, ◌++◌, cond, IfOk, OnOk};
+ghost use Rattle.cp_link.specs.Modules.{one, said};
+ghost use Rattle.cp_link.specs.Linked.{either_marks};
+ghost use Rattle.cp_assemble.specs.Index.{marking_by, markings_in, is_marking_of, marks_among};
 
 use cp_code::GoalMarks;
 use cp_declaration::{Declaration, Indicator};
 use cp_link::said;
+use cp_list::ListOf;
 use cp_read::ReadClause;
+use cp_term::Name;
 use std::alloc::{AllocError, Global};
 
-/// Which arguments of a predicate the `meta_predicate` declarations of a file mark, all of them together.
-pub(crate) fn marks_in(
+/// A `meta_predicate` declaration: the predicate's name, and which of its arguments it marks.
+#[derive(Debug, Drop)]
+pub(crate) struct Marking {
+    name: Name,
+    marks: GoalMarks,
+}
+
+pub(crate) type Markings = ListOf<Marking>;
+
+/// The `meta_predicate` declarations of a file.
+pub(crate) fn markings_in(alloc: Global, clauses: &[ReadClause]) -> Result<Markings, AllocError>
+    ensures { IfOk result (λ all. all ≡ markings_in clauses.now) }
+{
+    let mut all = Markings::new(alloc);
+    for clause in clauses {
+        push_marking(alloc, &mut all, clause)?;
+    }
+    Ok(all)
+}
+
+fn push_marking(alloc: Global, all: &mut Markings, clause: &ReadClause) -> Result<(), AllocError>
+    ensures { OnOk result (all.new ≡ all.old ++ one (marking_by (said clause.now))) }
+{
+    match said(alloc, clause)? {
+        Some(Declaration::MetaPredicate { name, marks }) => all.push(Marking { name, marks }),
+        _ => Ok(()),
+    }
+}
+
+/// Which arguments of a predicate these declarations mark, all of them together.
+pub(crate) fn marks_among(
     alloc: Global,
-    clauses: &[ReadClause],
+    markings: &[Marking],
     pred: &Indicator,
 ) -> Result<GoalMarks, AllocError>
-    ensures { IfOk result (λ marks. marks ≡ marks_in clauses.now pred.now) }
+    ensures { IfOk result (λ marks. marks ≡ marks_among markings.now pred.now) }
 {
     let mut all = GoalMarks::new(alloc);
-    let mut at = clauses.len();
-    'clauses: while at > 0 {
+    let mut at = markings.len();
+    'markings: while at > 0 {
         at -= 1;
-        let marks = marks_by(alloc, &clauses[at], pred)?;
-        let both = either_marks(alloc, marks.as_slice(), all.as_slice())?;
+        let both = with_marking(alloc, &markings[at], pred, all)?;
         all = both;
     }
     Ok(all)
 }
 
-fn marks_by(alloc: Global, clause: &ReadClause, pred: &Indicator) -> Result<GoalMarks, AllocError>
-    ensures { IfOk result (λ marks. marks ≡ marks_by pred.now (said clause.now)) }
+fn with_marking(
+    alloc: Global,
+    marking: &Marking,
+    pred: &Indicator,
+    others: GoalMarks,
+) -> Result<GoalMarks, AllocError>
+    ensures { IfOk result (λ both. both ≡ cond (is_marking_of pred.now marking.now) (either_marks marking.now.marks others) others) }
 {
-    match said(alloc, clause)? {
-        Some(Declaration::MetaPredicate { name, marks }) => {
-            if name.bytes() == pred.name.bytes() && marks.len() == u32::from(pred.arity) {
-                Ok(marks)
-            } else {
-                Ok(GoalMarks::new(alloc))
-            }
-        }
-        _ => Ok(GoalMarks::new(alloc)),
+    if marking.name.bytes() == pred.name.bytes() && marking.marks.len() == u32::from(pred.arity) {
+        either_marks(alloc, marking.marks.as_slice(), others.as_slice())
+    } else {
+        Ok(others)
     }
 }
 

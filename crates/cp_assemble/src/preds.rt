@@ -1,16 +1,17 @@
 ghost use Rattle.std.specs.Prelude.{◌≡◌, ◌++◌, map, IfOk, OnOk};
 ghost use Rattle.cp_module.specs.Causes.{clauses_of};
 ghost use Rattle.cp_link.specs.Lawful.{AllHaveBodies};
-ghost use Rattle.cp_link.specs.Linked.{clause_in, pred_in, preds_in};
+ghost use Rattle.cp_link.specs.Linked.{clause_in, marks_in, pred_in, preds_in};
+ghost use Rattle.cp_assemble.specs.Indexed.{IsIndexOf};
 
+use crate::index::FileIndex;
 use crate::kinds::kind_in;
-use crate::marks::marks_in;
+use crate::marks::marks_among;
 use crate::objects::Objects;
-use cp_code::{Clause, Clauses, PredInfo, Preds};
+use cp_code::{Clauses, GoalMarks, PredInfo, Preds};
 use cp_declaration::Indicator;
-use cp_link::{in_module, is_clause_of, name_of, own_preds};
+use cp_link::{in_module, name_of, own_preds};
 use cp_module::ModulePart;
-use cp_read::ReadClause;
 use cp_term::Name;
 use std::alloc::{AllocError, Global};
 
@@ -25,7 +26,8 @@ pub(crate) fn push_preds_in(
     ensures bodies { OnOk result (AllHaveBodies (preds_in shared.now part.now)) }
 {
     let own = own_preds(alloc, part.clauses().as_slice())?;
-    push_each(alloc, all, shared, part, own.as_slice())?;
+    let index = FileIndex::of(alloc, part.clauses().as_slice())?;
+    push_each(alloc, all, shared, part, &index, own.as_slice())?;
     Ok(())
 }
 
@@ -34,12 +36,14 @@ fn push_each(
     all: &mut Preds,
     shared: &Objects,
     part: &ModulePart,
+    index: &FileIndex,
     preds: &[Indicator],
 ) -> Result<(), AllocError>
+    requires { IsIndexOf part.now.clauses index.now }
     ensures { OnOk result (all.new ≡ all.old ++ map (pred_in shared.now part.now) preds.now) }
 {
     for pred in preds {
-        let info = pred_in(alloc, shared, part, pred)?;
+        let info = pred_in(alloc, shared, part, index, pred)?;
         all.push(info)?;
     }
     Ok(())
@@ -49,16 +53,18 @@ fn pred_in(
     alloc: Global,
     shared: &Objects,
     part: &ModulePart,
+    index: &FileIndex,
     pred: &Indicator,
 ) -> Result<PredInfo, AllocError>
+    requires { IsIndexOf part.now.clauses index.now }
     ensures { IfOk result (λ info. info ≡ pred_in shared.now part.now pred.now) }
 {
     let name = name_of(alloc, part)?;
     Ok(PredInfo {
         name: in_module(&name, pred)?,
-        clauses: clauses_in(alloc, &name, part.clauses().as_slice(), pred)?,
-        kind: kind_in(alloc, shared, part, pred)?,
-        goals: marks_in(alloc, part.clauses().as_slice(), pred)?,
+        clauses: clauses_in(alloc, &name, part, index, pred)?,
+        kind: kind_in(alloc, shared, part, index.shared.as_slice(), pred)?,
+        goals: marks_in(alloc, part, index, pred)?,
     })
 }
 
@@ -66,26 +72,29 @@ fn pred_in(
 fn clauses_in(
     alloc: Global,
     module_name: &Name,
-    clauses: &[ReadClause],
+    part: &ModulePart,
+    index: &FileIndex,
     pred: &Indicator,
 ) -> Result<Clauses, AllocError>
-    ensures { IfOk result (λ all. all ≡ map (clause_in module_name.now) (clauses_of clauses.now pred.now)) }
+    requires { IsIndexOf part.now.clauses index.now }
+    ensures { IfOk result (λ all. all ≡ map (clause_in module_name.now) (clauses_of part.now.clauses pred.now)) }
 {
-    let mut all = Clauses::new(alloc);
-    for clause in clauses {
-        if is_clause_of(clause, pred) {
-            all.push(clause_in(module_name, clause)?)?;
-        }
-    }
-    Ok(all)
+    let clauses = part.clauses().as_slice();
+    let own = index.places.clauses_of(alloc, module_name, clauses, pred)?;
+    Ok(own)
 }
 
-fn clause_in(module_name: &Name, clause: &ReadClause) -> Result<Clause, AllocError>
-    ensures { IfOk result (λ copy. copy ≡ clause_in module_name.now clause.now) }
+/// Which arguments of a predicate the `meta_predicate` declarations of a file mark, all of them together.
+fn marks_in(
+    alloc: Global,
+    part: &ModulePart,
+    index: &FileIndex,
+    pred: &Indicator,
+) -> Result<GoalMarks, AllocError>
+    requires { IsIndexOf part.now.clauses index.now }
+    ensures { IfOk result (λ marks. marks ≡ marks_in part.now.clauses pred.now) }
 {
-    Ok(Clause {
-        whole: clause.term.copy()?,
-        module: module_name.clone()?,
-        line: clause.line,
-    })
+    let _part = part;
+    let marks = marks_among(alloc, index.markings.as_slice(), pred)?;
+    Ok(marks)
 }
