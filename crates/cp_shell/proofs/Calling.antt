@@ -90,18 +90,26 @@ HasAdded-remote os seen wrote n (item.Answered r ∷ calls) h = let w : ⊥ = cc
 
 pub made_at_most : (before now : List Item) → HasMadeOne before now → HasMadeAtMost before now
 made_at_most before now (inl same) = inl same
-made_at_most before now (inr one) = inr (record { event = one.0; calls = []; added = one.1; remote = refl })
+made_at_most before now (inr one) = inr (record { event = one.0; own = one.2; calls = []; awake = inr refl; added = one.1; remote = refl })
 
 pub gone_then : (before between now calls : List Item) → HasGone before between → now ≡ between ++ calls → list_all is_remote calls ≡ true → HasGone before now
 gone_then before between now calls gone is remote = record {
   made = record {
     event = gone.made.event;
+    own = gone.made.own;
+    awake = inl gone.awake;
     calls = gone.made.calls ++ calls;
     added = is ∙ (ap (λ x. x ++ calls) gone.made.added ∙ append_assoc before (gone.made.event ∷ gone.made.calls) calls);
     remote = remote_append gone.made.calls calls gone.made.remote remote;
   };
   awake = gone.awake;
 }
+
+-- one that goes on with remote calls has made an event at most before them
+pub made_then : (rule : life.Rule) (objects : List Object) (continuation : List Input → Next) (failed : Bool) (before between now calls : List Item) (seen : ℕ → List Entry) (n : ℕ) (was : Stage) (parked : Option ℕ)
+    → HasTurned rule objects continuation failed before between seen n was parked → parked ≡ None → now ≡ between ++ calls → list_all is_remote calls ≡ true → HasMadeAtMost before now
+made_then rule objects continuation failed before between now calls seen n was parked turned none is remote =
+    inr (gone_then before between now calls (subst (λ p. MatchOption p (HasGone before between) (IsParkedAt rule objects seen n before between)) none turned.event) is remote).made
 
 -- a turn goes on with remote calls
 pub turned_then : (rule : life.Rule) (objects : List Object) (was_continuation continuation : List Input → Next) (was_failed failed : Bool) (before between now calls : List Item) (seen : ℕ → List Entry) (n : ℕ) (was s : Stage) (parked : Option ℕ)

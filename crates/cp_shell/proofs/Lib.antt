@@ -6,3 +6,4 @@ pub mod Turning
 pub mod Staying
 pub mod Calling
 pub mod Resting
+pub mod Driving

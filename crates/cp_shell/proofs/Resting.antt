@@ -34,7 +34,7 @@ agree_at q (x ∷ os) h n items zero o p a e is =
     subst (λ y. AgreeOn y p (h p) n items) same (subst (λ i. AgreeOn x i (h i) n items) (sym here) a.0)
 agree_at q (x ∷ os) h n items (suc k) o p a e is = agree_at (q + 1) os h n items k o p a.1 e (omega (arith, is))
 
-still_rests : (rule : life.Rule) (objects : List Object) (seen : ℕ → List Entry) (wrote : List OutEntry) (n : ℕ) (now : List Item) (p : ℕ) (c : Call) (o : Option Object)
+pub still_rests : (rule : life.Rule) (objects : List Object) (seen : ℕ → List Entry) (wrote : List OutEntry) (n : ℕ) (now : List Item) (p : ℕ) (c : Call) (o : Option Object)
     → slice_get objects p ≡ o → StillWaits o (seen p) n c → IsRunning rule objects seen wrote n now → EndsParkedOn p now
 still_rests rule objects seen wrote n now p c None e s running = absurd s
 still_rests rule objects seen wrote n now p c (Some o) e s running = waiting_rests rule o p (seen p) n now c running.life (agree_at 0 objects seen n now p o p running.agrees.asked e (omega arith)) s
@@ -46,7 +46,7 @@ rests_after rule objects seen wrote n before now p parked running = elim parked.
   | inr still ↦ still_rests rule objects seen wrote n now p parked.call (slice_get objects p) refl still.1 running
 ]
 
-parked_after-append : (w : Option ℕ) (xs ys : List Item) → parked_after w (xs ++ ys) ≡ parked_after (parked_after w xs) ys
+pub parked_after-append : (w : Option ℕ) (xs ys : List Item) → parked_after w (xs ++ ys) ≡ parked_after (parked_after w xs) ys
 parked_after-append w [] ys = refl
 parked_after-append w (x ∷ xs) ys = parked_after-append (parked_by x) xs ys
 
@@ -100,7 +100,7 @@ pub taken : (rule : life.Rule) (objects : List Object) (before now : List Item) 
     → MatchOption parked (HasGone before now) (IsParkedAt rule objects seen n before now) → HasTakenTurn objects seen n before now
 taken rule objects before now seen n None event = inl event.made
 taken rule objects before now seen n (Some p) event = elim event.cause [
-  | inl is ↦ inl (record { event = item.Asked p event.call reply.Parked; calls = []; added = is; remote = refl })
+  | inl is ↦ inl (record { event = item.Asked p event.call reply.Parked; own = refl; calls = []; awake = inr refl; added = is; remote = refl })
   | inr still ↦ inr (p, event.call, still.0, still.1)
 ]
 

@@ -21,14 +21,14 @@ use Rattle.cp_call.proofs.Growing.{IsWorkersLife-push}
 use Rattle.cp_shell.specs.declared.stage.Stage.{Stage}
 use Rattle.cp_shell.specs.Stage.{IsAt, IsRunningGoal}
 use Rattle.cp_shell.specs.Asked.{HasAskedOnce, StillWaits}
-use Rattle.cp_shell.specs.Parked.{is_parking, parked_by, HasMadeOne, HasMade}
+use Rattle.cp_shell.specs.Parked.{is_parking, is_remote, parked_by, HasMadeOne, HasMade}
 use Rattle.cp_shell.specs.Turn.{parked_at, after_answer, HasGone, IsParkedAt, HasTurned}
 
 pub last_stage-push : (rule : life.Rule) (s : life.WorkerStage) (items : List Item) (i : Item) → life.last_stage rule s (items ++ i ∷ []) ≡ life.stage_after rule (life.last_stage rule s items) i
 last_stage-push rule s [] i = refl
 last_stage-push rule s (x ∷ items) i = last_stage-push rule (life.stage_after rule s x) items i
 
-parking_is : (r : Reply) → is_parking r ≡ true → r ≡ reply.Parked
+pub parking_is : (r : Reply) → is_parking r ≡ true → r ≡ reply.Parked
 parking_is (reply.Added place woken) h = cc
 parking_is (reply.Found place fact) h = cc
 parking_is reply.NoMore h = cc
@@ -55,8 +55,8 @@ turned_by_event rule objects continuation failed before now seen n i stage parke
   life = λ l. subst (λ x. life.IsWorkersLife rule x) (sym is) (IsWorkersLife-push rule before i l request);
 }
 
-gone_by : (before now : List Item) (i : Item) → now ≡ before ++ i ∷ [] → parked_by i ≡ None → HasGone before now
-gone_by before now i is awake = record { made = record { event = i; calls = []; added = is; remote = refl }; awake = awake }
+gone_by : (before now : List Item) (i : Item) → now ≡ before ++ i ∷ [] → is_remote i ≡ false → parked_by i ≡ None → HasGone before now
+gone_by before now i is own awake = record { made = record { event = i; own = own; calls = []; awake = inr refl; added = is; remote = refl }; awake = awake }
 
 -- asking an object makes one event at most
 pub made_by_asking : (before now : List Item) (p : ℕ) (c : Call) → HasAskedOnce before now p c → HasMadeOne before now
@@ -82,7 +82,7 @@ event_of_reply rule objects before now seen n p c r true pending h is =
       pending = ap (life.pending_request rule) parked ∙ (pending_parked rule before p c ∙ pending);
       cause = inl parked;
     }
-event_of_reply rule objects before now seen n p c r false pending h is = gone_by before now (item.Asked p c r) is (ap (λ b. cond b (Some p) None) h)
+event_of_reply rule objects before now seen n p c r false pending h is = gone_by before now (item.Asked p c r) is refl (ap (λ b. cond b (Some p) None) h)
 
 -- a call was answered, or the engine still waits
 pub turned_by_answer : (rule : life.Rule) (objects : List Object) (continuation : List Input → Next) (failed : Bool) (before now : List Item) (seen : ℕ → List Entry) (n p : ℕ) (c : Call) (answer : Option Reply) (stage : Stage) (parked : Option ℕ)
@@ -166,4 +166,4 @@ turned_by_put rule count objects was_continuation continuation was_failed failed
     (ap life.request_at running.stage) is
     (subst (λ s. IsAt rule (length objects) continuation failed (life.handed rule s (input.Put r)) stage) (sym running.stage)
     (subst (λ k. IsAt rule k continuation failed (life.runs_on rule number running.goal (running.inputs ++ input.Put r ∷ [])) stage) same (at running.goal running.inputs running.goes_on)))
-    (gone_by before now (item.Wrote bytes r) is refl)
+    (gone_by before now (item.Wrote bytes r) is refl refl)

@@ -1,5 +1,5 @@
 -- Where the events of an engine leave it parked, and what the remote calls of an engine are.
-use Rattle.std.specs.Prelude.{◌≡◌, ◌⊎◌, ℕ, Bool, true, false, List, [], ◌∷◌, ◌++◌, Option, Some, None, cond}
+use Rattle.std.specs.Prelude.{◌≡◌, ◌⊎◌, ℕ, Bool, true, false, List, [], ◌∷◌, ◌++◌, Option, Some, None, is_none, cond}
 use Rattle.std.specs.List.{list_all}
 use Rattle.cp_call.specs.declared.call.Reply.{Reply}
 use Rattle.cp_call.specs.declared.call.Reply.TheVariants as reply
@@ -20,6 +20,10 @@ parked_by (item.Wrote bytes r) = None
 parked_by (item.Remote c r) = None
 parked_by (item.Given c) = None
 parked_by (item.Answered r) = None
+
+-- whether it leaves the engine awake
+abbrev pub leaves_awake : Item → Bool
+leaves_awake i = is_none (parked_by i)
 
 -- the object where the last of these events leaves it, where it was parked before them
 abbrev pub parked_after : Option ℕ → List Item → Option ℕ
@@ -46,10 +50,13 @@ is_remote_request (next.Remote c) = true
 is_remote_request (next.Answer goal) = false
 is_remote_request (next.End how) = false
 
--- The events have gained one, and then remote calls alone.
+-- The events have gained one that is no remote call, and then remote calls alone: none where that one has left the engine
+-- parked.
 pub record HasMade (before now : List Item) : Type 0 where
   pub event : Item
+  pub own : is_remote event ≡ false
   pub calls : List Item
+  pub awake : (parked_by event ≡ None) ⊎ (calls ≡ [])
   pub added : now ≡ before ++ event ∷ calls
   pub remote : list_all is_remote calls ≡ true
 
@@ -57,6 +64,6 @@ pub record HasMade (before now : List Item) : Type 0 where
 abbrev pub HasMadeOne : (before now : List Item) → Type 0
 HasMadeOne before now = (now ≡ before) ⊎ ((i : Item) × (now ≡ before ++ i ∷ []) × (is_remote i ≡ false))
 
--- they have gained one event and then remote calls alone, or nothing
+-- they have gained one event that is no remote call and then remote calls alone, or nothing
 abbrev pub HasMadeAtMost : (before now : List Item) → Type 0
 HasMadeAtMost before now = (now ≡ before) ⊎ HasMade before now

@@ -5,6 +5,7 @@ mod advance;
 mod ask;
 mod ask_goal;
 mod copy;
+mod driven;
 mod due;
 mod end_goal;
 mod event;
@@ -18,6 +19,7 @@ mod turn;
 mod whole_turn;
 
 pub use ask::ItemRoom;
+pub use driven::Driven;
 pub use no_dialer::NoDialer;
 pub use shell::Shell;
 pub use stage::Stage;

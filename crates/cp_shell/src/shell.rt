@@ -4,9 +4,10 @@ ghost use Rattle.cp_call.specs.Added.{HasAdded, AsksForOne, WritesForOne, Leads}
 ghost use Rattle.cp_call.specs.Life as life;
 ghost use Rattle.cp_call.specs.Running.{IsRunning};
 ghost use Rattle.cp_shell.specs.Parked.{HasMadeAtMost, is_remote_request, parked_object};
-ghost use Rattle.cp_shell.specs.Shell.{HasTakenTurn};
+ghost use Rattle.cp_shell.specs.Shell.{HasTakenTurn, HasEnded, IfParked, IsParkedOn};
 
 use crate::ask::ItemRoom;
+use crate::driven::Driven;
 use crate::stage::Stage;
 use crate::whole_turn::make_turn;
 use cp_call::{Asker, Caller, EngineEnd, Machine, Stand, Writer};
@@ -78,6 +79,18 @@ impl<M: Machine> Shell<M> {
         self.parked
     }
 
+    /// The object on which the worker is parked.
+    fn parked_on(&self) -> Driven
+        requires works { self.now.is_stopped ≡ false }
+        requires parked { is_some (parked_object self.now.items) ≡ true }
+        ensures { IsParkedOn (parked_object self.now.items) result }
+    {
+        match self.parked {
+            Some(object) => Driven::Parked { object },
+            None => unreachable!(),
+        }
+    }
+
     /// Makes one event and then the remote calls that are due before the next one, or nothing where the worker is still
     /// parked. It answers whether the worker is parked now, and then the same call is asked again later.
     pub fn drive_one<A: Asker, P: Writer, C: Caller>(
@@ -123,6 +136,47 @@ impl<M: Machine> Shell<M> {
                 Ok(parked.is_some())
             }
         }
+    }
+
+    /// Gives the worker up, as where memory stops it.
+    fn stop(&mut self)
+        ensures { self.new ≡ record { number = self.old.number; machine = self.old.machine; items = self.old.items; is_stopped = true } }
+    {
+        let _stage = self.stage.take();
+    }
+
+    /// Makes one event after another, each with the remote calls that are due after it, until the worker is parked or memory
+    /// stops the shell. A worker that is still parked makes none.
+    pub fn drive<A: Asker, P: Writer, C: Caller>(
+        &mut self,
+        asker: &mut A,
+        port: &mut P,
+        caller: &mut C,
+    ) -> Driven
+        requires objects { M.Rule.objects (M.code self.old.machine) ≡ length (A.objects asker.old) }
+        requires asks { IsTrue (A.serves asker.old self.old.number) }
+        requires writes { IsTrue (P.serves port.old self.old.number) }
+        requires running { self.old.is_stopped ≡ false → IsRunning (M.Rule.asks (M.code self.old.machine)) (A.objects asker.old) (A.seen asker.old self.old.number) (P.wrote port.old self.old.number) self.old.number self.old.items }
+        ensures number { self.new.number ≡ self.old.number }
+        ensures code { M.code self.new.machine ≡ M.code self.old.machine }
+        ensures added { (added : List Item) × (self.new.items ≡ self.old.items ++ added) × HasAdded (A.objects asker.old) (A.seen asker.old self.old.number) (A.seen asker.new self.old.number) (P.wrote port.old self.old.number) (P.wrote port.new self.old.number) self.old.number added × IfParked result (Leads C.went caller.old added caller.new) }
+        ensures life { life.IsWorkersLife (M.Rule.asks (M.code self.old.machine)) self.old.items → life.IsWorkersLife (M.Rule.asks (M.code self.old.machine)) self.new.items }
+        ensures ended { HasEnded (A.objects asker.old) (A.seen asker.new self.old.number) self.old.number self.old.items self.new.items self.new.is_stopped result }
+        ensures stays_stopped { self.old.is_stopped ≡ true → self.new ≡ self.old }
+        ensures others { AsksForOne self.old.number (A.objects asker.old) (A.objects asker.new) (A.serves asker.old) (A.serves asker.new) (A.seen asker.old) (A.seen asker.new) (A.looked asker.old) (A.looked asker.new) }
+        ensures others_written { WritesForOne self.old.number (P.serves port.old) (P.serves port.new) (P.wrote port.old) (P.wrote port.new) }
+        ensures asker { A.stays asker.old asker.new }
+        ensures port { P.stays port.old port.new }
+    {
+        for _ in 0..u64::MAX {
+            match self.drive_one(asker, port, caller) {
+                Ok(false) => {}
+                Ok(true) => return self.parked_on(),
+                Err(_) => return Driven::Stopped,
+            }
+        }
+        self.stop();
+        Driven::Stopped
     }
 
     /// The worker at the end, as it stands there. It takes no memory.
