@@ -1,6 +1,6 @@
 -- The workers that are not parked: where there are none all are parked, and each is one of the shells.
-use Rattle.std.proofs.Common.{◌≡◌, ◌⊎◌, inl, inr, ℕ, zero, suc, ◌+◌, ◌<◌, ◌==◌, List, [], ◌∷◌, ◌++◌, length, refl, sym, ap, subst, Bool, true, false, cond, Some, arith}
-use Rattle.std.specs.Prelude.{slice_get}
+use Rattle.std.proofs.Common.{◌≡◌, ◌≢◌, ◌⊎◌, inl, inr, ℕ, zero, suc, ◌+◌, ◌<◌, ◌==◌, List, [], ◌∷◌, ◌++◌, length, refl, sym, ◌∙◌, ap, subst, Bool, true, false, cond, Some, arith}
+use Rattle.std.specs.Prelude.{slice_get, MatchBool}
 use Rattle.std.proofs.lemmas.Option.{slice_get_within}
 use Rattle.std.proofs.lemmas.Bool.Decides.{eqb_tells}
 use Rattle.cp_shell.specs.Shell.{ShellView}
@@ -67,3 +67,11 @@ awake_next hall shells n = ap (λ m. awake_below hall shells m) next
   where
     next : n + 1 ≡ suc n
     next = omega arith
+
+-- whether a list is empty
+pub is_none_left : {X : Type 0} (xs : List X) (n : ℕ) (b : Bool) → n ≡ length xs → b ≡ (n == 0) → MatchBool b (xs ≡ []) (xs ≢ [])
+is_none_left {X} xs n b l e = by b refl
+  where
+    by : (v : Bool) → b ≡ v → MatchBool v (xs ≡ []) (xs ≢ [])
+    by true t = nothing xs n b l e t
+    by false f = λ none. (let z : ⊥ = omega (arith, something n b e f, l ∙ ap (λ ys. length ys) none) in z)

@@ -112,19 +112,23 @@ come_workers {M} {Code} code asks count shells now hall hall_now port port_now s
     (of_workers engine_ended (λ (s : ShellView M). object_number (parked_object s.items)) steps (length shells) now (map pred_now hall_now) port_now (λ s. refl) (λ s. refl)
     (come_numbers code asks count shells now hall hall_now port port_now come) come.later.count)
 
--- wherever a run stops, it has come to an outcome
+-- wherever a run stops, it has come to this moment
+pub come_now : {M Code S : Type 0} (held : S → Option (List ℕ)) (faults : S → ℕ) (first sink : S) (code : M → Code) (asks : Code → Rule) (count : Code → ℕ) (shells now : List (ShellView M)) (hall hall_now : List HallObject) (port port_now : List OutEntry) (k : Code) (steps : ℕ)
+    → HasCome code asks count shells now hall hall_now port port_now → Records held faults first port_now sink → AreNew code k shells
+    → HasRunTo held faults (workers_setup (asks k) (objects_of hall)) steps (length shells) first sink (record_now steps now hall_now port_now)
+come_now {M} {Code} {S} held faults first sink code asks count shells now hall hall_now port port_now k steps come records new = record {
+  going = come_going code asks count shells now hall hall_now port port_now k steps come new;
+  workers = of_workers engine_now (λ (s : ShellView M). 0) steps (length shells) now (map pred_now hall_now) port_now (λ s. refl) (λ s. refl)
+      (come_numbers code asks count shells now hall hall_now port port_now come) come.later.count;
+  records = records;
+}
+
+-- so it has come to an outcome
 pub come_run : {M Code S : Type 0} (held : S → Option (List ℕ)) (faults : S → ℕ) (first sink : S) (code : M → Code) (asks : Code → Rule) (count : Code → ℕ) (shells now : List (ShellView M)) (hall hall_now : List HallObject) (port port_now : List OutEntry) (k : Code) (steps : ℕ)
     → HasCome code asks count shells now hall hall_now port port_now → Records held faults first port_now sink → AreNew code k shells
     → (o : Outcome) × HasRunTo held faults (workers_setup (asks k) (objects_of hall)) steps (length shells) first sink o
-come_run {M} {Code} {S} held faults first sink code asks count shells now hall hall_now port port_now k steps come records new = (
-  record_now steps now hall_now port_now,
-  record {
-    going = come_going code asks count shells now hall hall_now port port_now k steps come new;
-    workers = of_workers engine_now (λ (s : ShellView M). 0) steps (length shells) now (map pred_now hall_now) port_now (λ s. refl) (λ s. refl)
-        (come_numbers code asks count shells now hall hall_now port port_now come) come.later.count;
-    records = records;
-  },
-)
+come_run held faults first sink code asks count shells now hall hall_now port port_now k steps come records new =
+    (record_now steps now hall_now port_now, come_now held faults first sink code asks count shells now hall hall_now port port_now k steps come records new)
 
 -- what holds of an outcome that is there follows from what else holds of it
 pub if_some : {X : Type 0} (r : Option X) {A B : X → Type 0} → IfSome r A → ((x : X) → A x → B x) → IfSome r B

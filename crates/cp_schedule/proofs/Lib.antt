@@ -9,3 +9,6 @@ pub mod Choosing
 pub mod Standing
 pub mod Picking
 pub mod Seeding
+pub mod Same
+pub mod First
+pub mod Following

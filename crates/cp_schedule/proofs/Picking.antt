@@ -1,6 +1,6 @@
 -- A turn of the worker at a place, in the record of a run, and what picks of workers come to.
 use Rattle.std.proofs.Common.{◌≡◌, inl, inr, ℕ, zero, suc, ◌+◌, ◌-◌, ◌<◌, List, [], ◌∷◌, ◌++◌, length, refl, sym, ◌∙◌, ap, subst, Bool, true, false, None, Some, arith}
-use Rattle.std.specs.Prelude.{map, slice_get, slice_set, not, MatchBool}
+use Rattle.std.specs.Prelude.{map, slice_get, slice_set, take, not, MatchBool}
 use Rattle.std.specs.List.{list_all}
 use Rattle.std.proofs.lemmas.Bool.{and_from}
 use Rattle.cp_call.specs.declared.item.Item.{Item}
@@ -19,7 +19,8 @@ use Rattle.cp_shell.specs.Shell.{ShellView, HasTakenTurn}
 use Rattle.cp_hall.specs.Hall.{HallObject, objects_of, history_at, AreLegal}
 use Rattle.cp_schedule.specs.Awake.{is_parked_now, is_parked_place}
 use Rattle.cp_schedule.specs.Record.{AreDriven, IsLater, RecordLeads, engine_now, pred_now, record_now, workers_setup}
-use Rattle.cp_schedule.specs.Turns.{is_no_dialer, is_undialled, is_parked_somewhere, is_awake_engine, is_awake, TakesTurn, TakesPick, TakesPicks}
+use Rattle.cp_schedule.specs.Picked.{StopsAt}
+use Rattle.cp_schedule.specs.Turns.{is_no_dialer, is_undialled, is_parked_somewhere, is_awake_engine, is_awake, names_awake, HasDriven, RunsBy, TakesTurn, TakesPick, TakesPicks}
 use Rattle.cp_shell.specs.Asked.{StillWaits}
 use Rattle.cp_schedule.proofs.Lists.{cancel, get_map, get_set}
 use Rattle.cp_schedule.proofs.Standing.{awake_same, waits_somewhere}
@@ -82,13 +83,13 @@ turn_takes {M} {Code} code asks shells i v w hall now port port_now k steps ther
         (subst (λ c. is_remote_request (life.pending_request (asks c) w.items) ≡ false) (d.codes i v there) has.settled)
 
 -- a pick that names no worker that is awake changes nothing
-pub idle_pick : (s : Setup) (o : Outcome) (n : ℕ) → ((place : ℕ) → n ≡ suc place → is_awake o place ≡ false) → TakesPick s o n o
-idle_pick s o zero h = refl
-idle_pick s o (suc place) h = subst (λ b. MatchBool b (TakesTurn s o place o) (o ≡ o)) (sym (h place refl)) refl
+unnamed_pick : (s : Setup) (o : Outcome) (n : ℕ) → names_awake o n ≡ false → HasDriven s o n false o
+unnamed_pick s o zero h = (h, refl)
+unnamed_pick s o (suc place) h = (h, subst (λ b. MatchBool b (TakesTurn s o place o) (o ≡ o)) (sym h) refl)
 
 -- as one that names none
-pub zero_pick : (s : Setup) (o : Outcome) (n : ℕ) → n ≡ 0 → TakesPick s o n o
-zero_pick s o n z = idle_pick s o n (λ place e. absurd (let w : ⊥ = omega (arith, z, e) in w))
+pub zero_pick : (s : Setup) (o : Outcome) (n : ℕ) → n ≡ 0 → HasDriven s o n false o
+zero_pick s o n z = unnamed_pick s o n (ap (names_awake o) z)
 
 get_beyond : {A : Type 0} (xs : List A) (k : ℕ) → length xs < suc k → slice_get xs k ≡ None
 get_beyond [] k h = refl
@@ -99,35 +100,49 @@ length_map : {A B : Type 0} (f : A → B) (xs : List A) → length (map f xs) �
 length_map f [] = refl
 length_map f (x ∷ xs) = ap suc (length_map f xs)
 
+beyond_named : {M : Type 0} (steps : ℕ) (shells : List (ShellView M)) (hall : List HallObject) (port : List OutEntry) (n : ℕ) → length shells < n → names_awake (record_now steps shells hall port) n ≡ false
+beyond_named steps shells hall port zero h = refl
+beyond_named steps shells hall port (suc place) h =
+    ap (is_awake_engine (map pred_now hall)) (get_beyond (map engine_now shells) place (subst (λ m. m < suc place) (sym (length_map engine_now shells)) h))
+
 pub beyond_pick : {M : Type 0} (s : Setup) (steps : ℕ) (shells : List (ShellView M)) (hall : List HallObject) (port : List OutEntry) (n : ℕ) → length shells < n
-    → TakesPick s (record_now steps shells hall port) n (record_now steps shells hall port)
-beyond_pick {M} s steps shells hall port n h = idle_pick s (record_now steps shells hall port) n (λ place e.
-    ap (is_awake_engine (map pred_now hall)) (get_beyond (map engine_now shells) place (subst (λ m. m < suc place) (sym (length_map engine_now shells)) (subst (λ m. length shells < m) e h))))
+    → HasDriven s (record_now steps shells hall port) n false (record_now steps shells hall port)
+beyond_pick {M} s steps shells hall port n h = unnamed_pick s (record_now steps shells hall port) n (beyond_named steps shells hall port n h)
 
 below_one : (place : ℕ) → suc place - 1 ≡ place
 below_one place = omega arith
 
+named_as : {M Code : Type 0} (code : M → Code) (asks : Code → life.Rule) (k : Code) (shells : List (ShellView M)) (hall : List HallObject) (port : List OutEntry) (steps place : ℕ) (v : ShellView M) (b : Bool)
+    → AreDriven code asks k (objects_of hall) shells hall port → AreLegal hall → slice_get shells (suc place - 1) ≡ Some v → is_parked_now hall v.number v.items ≡ b
+    → is_awake (record_now steps shells hall port) place ≡ not b
+named_as code asks k shells hall port steps place v b d legal there parked =
+    let here : slice_get shells place ≡ Some v = subst (λ i. slice_get shells i ≡ Some v) (below_one place) there in
+    awake_same code asks k shells hall port d legal steps place ∙ (ap (λ o. not (is_parked_place hall o)) here ∙ ap not parked)
+
+parked_named : {M Code : Type 0} (code : M → Code) (asks : Code → life.Rule) (k : Code) (shells : List (ShellView M)) (hall : List HallObject) (port : List OutEntry) (steps n : ℕ) (v : ShellView M)
+    → AreDriven code asks k (objects_of hall) shells hall port → AreLegal hall → slice_get shells (n - 1) ≡ Some v → is_parked_now hall v.number v.items ≡ true
+    → names_awake (record_now steps shells hall port) n ≡ false
+parked_named code asks k shells hall port steps zero v d legal there parked = refl
+parked_named code asks k shells hall port steps (suc place) v d legal there parked = named_as code asks k shells hall port steps place v true d legal there parked
+
 -- or one that is parked
 pub parked_pick : {M Code : Type 0} (code : M → Code) (asks : Code → life.Rule) (k : Code) (shells : List (ShellView M)) (hall : List HallObject) (port : List OutEntry) (steps n : ℕ) (v : ShellView M)
     → AreDriven code asks k (objects_of hall) shells hall port → AreLegal hall → slice_get shells (n - 1) ≡ Some v → is_parked_now hall v.number v.items ≡ true
-    → TakesPick (workers_setup (asks k) (objects_of hall)) (record_now steps shells hall port) n (record_now steps shells hall port)
-parked_pick {M} code asks k shells hall port steps n v d legal there parked = idle_pick (workers_setup (asks k) (objects_of hall)) (record_now steps shells hall port) n (λ place e.
-    let here : slice_get shells place ≡ Some v = subst (λ i. slice_get shells i ≡ Some v) (ap (λ m. m - 1) e ∙ below_one place) there in
-    awake_same code asks k shells hall port d legal steps place ∙ (ap (λ o. not (is_parked_place hall o)) here ∙ ap (λ b. not b) parked))
+    → HasDriven (workers_setup (asks k) (objects_of hall)) (record_now steps shells hall port) n false (record_now steps shells hall port)
+parked_pick {M} code asks k shells hall port steps n v d legal there parked =
+    unnamed_pick (workers_setup (asks k) (objects_of hall)) (record_now steps shells hall port) n (parked_named code asks k shells hall port steps n v d legal there parked)
 
 -- a pick of a worker that is not parked is a turn of it
 pub awake_pick : {M Code : Type 0} (code : M → Code) (asks : Code → life.Rule) (k : Code) (shells : List (ShellView M)) (hall : List HallObject) (port : List OutEntry) (steps n : ℕ) (v : ShellView M) (after : Outcome)
     → AreDriven code asks k (objects_of hall) shells hall port → AreLegal hall → 0 < n → slice_get shells (n - 1) ≡ Some v → is_parked_now hall v.number v.items ≡ false
     → (is_awake (record_now steps shells hall port) (n - 1) ≡ true → TakesTurn (workers_setup (asks k) (objects_of hall)) (record_now steps shells hall port) (n - 1) after)
-    → TakesPick (workers_setup (asks k) (objects_of hall)) (record_now steps shells hall port) n after
+    → HasDriven (workers_setup (asks k) (objects_of hall)) (record_now steps shells hall port) n true after
 awake_pick code asks k shells hall port steps zero v after d legal some there awake turn = absurd (let w : ⊥ = omega (arith, some) in w)
 awake_pick {M} code asks k shells hall port steps (suc place) v after d legal some there awake turn =
-    let here : slice_get shells place ≡ Some v = subst (λ i. slice_get shells i ≡ Some v) (below_one place) there in
-    let not_parked : is_awake (record_now steps shells hall port) place ≡ true =
-    awake_same code asks k shells hall port d legal steps place ∙ (ap (λ o. not (is_parked_place hall o)) here ∙ ap (λ b. not b) awake) in
+    let not_parked : is_awake (record_now steps shells hall port) place ≡ true = named_as code asks k shells hall port steps place v false d legal there awake in
     let taken : TakesTurn (workers_setup (asks k) (objects_of hall)) (record_now steps shells hall port) place after =
     subst (λ i. TakesTurn (workers_setup (asks k) (objects_of hall)) (record_now steps shells hall port) i after) (below_one place) (turn (subst (λ i. is_awake (record_now steps shells hall port) i ≡ true) (sym (below_one place)) not_parked)) in
-    subst (λ b. MatchBool b (TakesTurn (workers_setup (asks k) (objects_of hall)) (record_now steps shells hall port) place after) (record_now steps shells hall port ≡ after)) (sym not_parked) taken
+    (not_parked, subst (λ b. MatchBool b (TakesTurn (workers_setup (asks k) (objects_of hall)) (record_now steps shells hall port) place after) (record_now steps shells hall port ≡ after)) (sym not_parked) taken)
 
 -- one pick more behind others
 pub picks_on : (s : Setup) (before between after : Outcome) (picks : List ℕ) (n : ℕ) → TakesPicks s before picks between → TakesPick s between n after → TakesPicks s before (picks ++ n ∷ []) after
@@ -145,7 +160,38 @@ leads_from code asks s1 s2 s3 h1 h2 h3 p1 p2 p3 leads later from k steps d =
 -- the picks of a loop
 pub picks_later : {M Code : Type 0} (code : M → Code) (asks : Code → life.Rule) (s1 s2 s3 : List (ShellView M)) (h1 h2 h3 : List HallObject) (p1 p2 p3 : List OutEntry) (picks : List ℕ) (n : ℕ)
     → IsLater code asks s1 s2 h1 h2 p1 p2 → RecordLeads code asks s1 s2 h1 h2 p1 p2 (λ s before after. TakesPicks s before picks after)
-    → RecordLeads code asks s2 s3 h2 h3 p2 p3 (λ s before after. TakesPick s before n after) → RecordLeads code asks s1 s3 h1 h3 p1 p3 (λ s before after. TakesPicks s before (picks ++ n ∷ []) after)
-picks_later code asks s1 s2 s3 h1 h2 h3 p1 p2 p3 picks n later first next k steps d =
+    → {driven : Bool} → RecordLeads code asks s2 s3 h2 h3 p2 p3 (λ s before after. HasDriven s before n driven after) → RecordLeads code asks s1 s3 h1 h3 p1 p3 (λ s before after. TakesPicks s before (picks ++ n ∷ []) after)
+picks_later code asks s1 s2 s3 h1 h2 h3 p1 p2 p3 picks n later first {driven} next k steps d =
     picks_on (workers_setup (asks k) (objects_of h1)) (record_now steps s1 h1 p1) (record_now steps s2 h2 p2) (record_now steps s3 h3 p3) picks n (first k steps d)
-    (leads_from code asks s1 s2 s3 h1 h2 h3 p1 p2 p3 (λ s before after. TakesPick s before n after) later next k steps d)
+    (leads_from code asks s1 s2 s3 h1 h2 h3 p1 p2 p3 (λ s before after. HasDriven s before n driven after) later next k steps d).1
+
+-- one pick more, of a worker that is not parked
+runs_on : (s : Setup) (before between after : Outcome) (picks : List ℕ) (n : ℕ) → RunsBy s before picks between → HasDriven s between n true after → RunsBy s before (picks ++ n ∷ []) after
+runs_on s before between after [] n a b = subst (λ x. (names_awake x n ≡ true) × ((between : Outcome) × (TakesPick s x n between × (between ≡ after)))) (sym a) (b.0, (after, (b.1, refl)))
+runs_on s before between after (m ∷ picks) n a b = (a.0, (a.1.0, (a.1.1.0, runs_on s a.1.0 between after picks n a.1.1.1 b)))
+
+pub runs_later : {M Code : Type 0} (code : M → Code) (asks : Code → life.Rule) (s1 s2 s3 : List (ShellView M)) (h1 h2 h3 : List HallObject) (p1 p2 p3 : List OutEntry) (picks : List ℕ) (n : ℕ) (driven : Bool)
+    → IsLater code asks s1 s2 h1 h2 p1 p2 → RecordLeads code asks s1 s2 h1 h2 p1 p2 (λ s before after. RunsBy s before picks after) → driven ≡ true
+    → RecordLeads code asks s2 s3 h2 h3 p2 p3 (λ s before after. HasDriven s before n driven after) → RecordLeads code asks s1 s3 h1 h3 p1 p3 (λ s before after. RunsBy s before (picks ++ n ∷ []) after)
+runs_later code asks s1 s2 s3 h1 h2 h3 p1 p2 p3 picks n driven later first did next k steps d =
+    runs_on (workers_setup (asks k) (objects_of h1)) (record_now steps s1 h1 p1) (record_now steps s2 h2 p2) (record_now steps s3 h3 p3) picks n (first k steps d)
+    (subst (λ b. HasDriven (workers_setup (asks k) (objects_of h1)) (record_now steps s2 h2 p2) n b (record_now steps s3 h3 p3)) did
+    (leads_from code asks s1 s2 s3 h1 h2 h3 p1 p2 p3 (λ s before after. HasDriven s before n driven after) later next k steps d))
+
+-- a pick that names no worker that is not parked stops them there
+stops_same : (s : Setup) (before now after : Outcome) (picks : List ℕ) (place n : ℕ) → RunsBy s before (take place picks) now → slice_get picks place ≡ Some n → HasDriven s now n false after → StopsAt s before picks place after
+stops_same s before now after picks place n runs there idle =
+    let same : now ≡ after = unmoved s now after n idle.0 idle.1 in
+    record { pick = n; there = there; runs = subst (λ o. RunsBy s before (take place picks) o) same runs; bad = subst (λ o. names_awake o n ≡ false) same idle.0 }
+  where
+    unmoved : (s : Setup) (now after : Outcome) (n : ℕ) → names_awake now n ≡ false → TakesPick s now n after → now ≡ after
+    unmoved s now after zero none h = h
+    unmoved s now after (suc place) none h = subst (λ b. MatchBool b (TakesTurn s now place after) (now ≡ after)) none h
+
+pub stops_later : {M Code : Type 0} (code : M → Code) (asks : Code → life.Rule) (s1 s2 s3 : List (ShellView M)) (h1 h2 h3 : List HallObject) (p1 p2 p3 : List OutEntry) (picks : List ℕ) (place n : ℕ) (driven : Bool)
+    → IsLater code asks s1 s2 h1 h2 p1 p2 → RecordLeads code asks s1 s2 h1 h2 p1 p2 (λ s before after. RunsBy s before (take place picks) after) → slice_get picks place ≡ Some n → driven ≡ false
+    → RecordLeads code asks s2 s3 h2 h3 p2 p3 (λ s before after. HasDriven s before n driven after) → RecordLeads code asks s1 s3 h1 h3 p1 p3 (λ s before after. StopsAt s before picks place after)
+stops_later code asks s1 s2 s3 h1 h2 h3 p1 p2 p3 picks place n driven later first there idle next k steps d =
+    stops_same (workers_setup (asks k) (objects_of h1)) (record_now steps s1 h1 p1) (record_now steps s2 h2 p2) (record_now steps s3 h3 p3) picks place n (first k steps d) there
+    (subst (λ b. HasDriven (workers_setup (asks k) (objects_of h1)) (record_now steps s2 h2 p2) n b (record_now steps s3 h3 p3)) idle
+    (leads_from code asks s1 s2 s3 h1 h2 h3 p1 p2 p3 (λ s before after. HasDriven s before n driven after) later next k steps d))

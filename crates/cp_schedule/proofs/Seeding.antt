@@ -56,7 +56,7 @@ comes_to_end code asks s1 s2 s3 h1 h2 h3 p1 p2 p3 first words later come ended k
     let here = leads_from code asks s1 s2 s3 h1 h2 h3 p1 p2 p3 (λ s before after. (awake_places before ≡ []) × (after ≡ before)) later ended k steps d in
     come k steps d 0 (all_at_rest (record_now steps s3 h3 p3)) (here.0, ap all_at_rest here.1)
 
-rest_same : {M : Type 0} (shells : List (ShellView M)) → map at_rest (map engine_now shells) ≡ map engine_ended shells
+pub rest_same : {M : Type 0} (shells : List (ShellView M)) → map at_rest (map engine_now shells) ≡ map engine_ended shells
 rest_same [] = refl
 rest_same (s ∷ shells) = ap (λ es. engine_ended s ∷ es) (rest_same shells)
 

@@ -2,3 +2,5 @@ pub mod Record
 pub mod Awake
 pub mod Ended
 pub mod Turns
+pub mod Picked
+pub mod First

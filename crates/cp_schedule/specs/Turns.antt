@@ -5,10 +5,12 @@ use Rattle.rand_pcg.specs.Lcg.{Lcg, started, increment_of}
 use Rattle.rand_pcg.specs.Pcg.{multiplier_64, pcg32}
 use Rattle.cp_call.specs.declared.item.Item.{Item}
 use Rattle.cp_call.specs.declared.item.Item.TheVariants as item
+use Rattle.cp_call.specs.declared.item.PutReply.{PutReply}
 use Rattle.cp_call.specs.declared.item.RemoteReply.{RemoteReply}
 use Rattle.cp_call.specs.declared.item.RemoteReply.TheVariants as remote
 use Rattle.cp_call.specs.declared.outcome.Stand.TheVariants as stand
 use Rattle.cp_call.specs.declared.outcome.EngineEnd.{EngineEnd}
+use Rattle.cp_call.specs.declared.outcome.OutEntry.{OutEntry}
 use Rattle.cp_call.specs.declared.outcome.ParkedRow.{ParkedRow}
 use Rattle.cp_call.specs.declared.outcome.PredEnd.{PredEnd}
 use Rattle.cp_call.specs.declared.outcome.Outcome.{Outcome}
@@ -76,10 +78,24 @@ abbrev pub TakesPick : Setup → Outcome → ℕ → Outcome → Type 0
 TakesPick s before zero after = before ≡ after
 TakesPick s before (suc place) after = MatchBool (is_awake before place) (TakesTurn s before place after) (before ≡ after)
 
+-- whether a pick names a worker that is not parked
+abbrev pub names_awake : Outcome → ℕ → Bool
+names_awake o zero = false
+names_awake o (suc place) = is_awake o place
+
+-- a pick was taken, and drove a worker or not
+abbrev pub HasDriven : Setup → (before : Outcome) → ℕ → (driven : Bool) → (after : Outcome) → Type 0
+HasDriven s before n driven after = (names_awake before n ≡ driven) × TakesPick s before n after
+
 -- these picks, one after another, lead from one moment of a run to another
 abbrev pub TakesPicks : Setup → Outcome → List ℕ → Outcome → Type 0
 TakesPicks s before [] after = before ≡ after
 TakesPicks s before (n ∷ picks) after = (between : Outcome) × (TakesPick s before n between × TakesPicks s between picks after)
+
+-- the same of picks that all name a worker that is not parked
+abbrev pub RunsBy : Setup → Outcome → List ℕ → Outcome → Type 0
+RunsBy s before [] after = before ≡ after
+RunsBy s before (n ∷ picks) after = (names_awake before n ≡ true) × ((between : Outcome) × (TakesPick s before n between × RunsBy s between picks after))
 
 -- The next turn by a generator: its next word, modulo the number of the workers that are not parked, picks one of them by
 -- ascending number.
@@ -107,3 +123,7 @@ generator_of seed = started 64 multiplier_64 seed (increment_of 64 0)
 -- The run of this seed with so many workers, where each goal has this step budget, ends with this outcome.
 abbrev pub IsRunOfSeed : Setup → (seed steps workers : ℕ) → Outcome → Type 0
 IsRunOfSeed s seed steps workers end = (turns : ℕ) × RunsToEnd s (generator_of seed) turns (beginning s steps workers) end
+
+-- how the writes of a run were replied, in order
+abbrev pub puts_of : Outcome → List PutReply
+puts_of o = map (λ (w : OutEntry). w.reply) o.port

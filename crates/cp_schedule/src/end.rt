@@ -18,6 +18,26 @@ pub struct SimEnd<S: Sink> {
     pub sink: S,
 }
 
+/// How a run by a list of picks ended.
+#[derive(Drop)]
+pub enum Picked {
+    /// All workers are parked after the last pick.
+    Ended { outcome: Outcome },
+    /// Some worker is not parked after the last pick.
+    Awake,
+    /// The pick at this place, from 0, names no worker, or one that is parked.
+    BadPick { place: usize },
+    /// Memory has stopped it.
+    NoMemory,
+}
+
+/// What a run by a list of picks leaves.
+#[derive(Drop)]
+pub struct PickEnd<S: Sink> {
+    pub end: Picked,
+    pub sink: S,
+}
+
 /// A worker at the end, parked on the object where its last event left it. A shell that memory has stopped answers so.
 fn engine_end<M: Machine>(shell: Shell<M>) -> Result<EngineEnd, AllocError>
     ensures { IfOk result (λ end. end ≡ engine_ended shell) }

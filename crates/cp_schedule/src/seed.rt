@@ -33,7 +33,7 @@ fn push_unless(places: &mut Vec<usize>, place: usize, is_left_out: bool) -> Resu
 }
 
 /// The places of the workers that are not parked, by ascending number.
-fn awake_places<M: Machine>(
+pub(crate) fn awake_places<M: Machine>(
     alloc: Global,
     shells: &[Shell<M>],
     hall: &PlainHall,

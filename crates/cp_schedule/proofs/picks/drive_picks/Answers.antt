@@ -21,15 +21,15 @@ loop-pick-preserved g c = record {
   picks = subst (λ picks. RecordLeads g.M.Machine.code g.M.Rule.Asks.asks c.args.shells.now.items c.drive_pick.new.shells.items c.args.hall.now c.drive_pick.new.hall c.args.port.now.entries c.drive_pick.new.port.entries (λ s before after. TakesPicks s before picks after))
       (sym (take_more c.args.picks.now c.loop-pick.pick-index 0 c.loop-pick-test.true))
       (picks_later g.M.Machine.code g.M.Rule.Asks.asks c.args.shells.now.items c.loop-pick.shells.items c.drive_pick.new.shells.items c.args.hall.now c.loop-pick.hall c.drive_pick.new.hall c.args.port.now.entries c.loop-pick.port.entries c.drive_pick.new.port.entries
-      (take c.loop-pick.pick-index c.args.picks.now) (get_or c.args.picks.now c.loop-pick.pick-index 0) c.loop-pick.invariant.later c.loop-pick.invariant.picks c.in_ok-drive_pick.ensures.pick);
+      (take c.loop-pick.pick-index c.args.picks.now) (get_or c.args.picks.now c.loop-pick.pick-index 0) c.loop-pick.invariant.later c.loop-pick.invariant.picks c.in_ok-_driven.ensures.pick);
   first = c.drive_pick.ensures.first ∙ c.loop-pick.invariant.first;
 }
 
-pub returns-in_err-drive_pick-clause-later : goal.returns-in_err-drive_pick-clause-later
-returns-in_err-drive_pick-clause-later g c = later_on g.M.Machine.code g.M.Rule.Asks.asks c.args.shells.now.items c.loop-pick.shells.items c.drive_pick.new.shells.items c.args.hall.now c.loop-pick.hall c.drive_pick.new.hall c.args.port.now.entries c.loop-pick.port.entries c.drive_pick.new.port.entries c.loop-pick.invariant.later c.drive_pick.ensures.later
+pub returns-in_err-_driven-clause-later : goal.returns-in_err-_driven-clause-later
+returns-in_err-_driven-clause-later g c = later_on g.M.Machine.code g.M.Rule.Asks.asks c.args.shells.now.items c.loop-pick.shells.items c.drive_pick.new.shells.items c.args.hall.now c.loop-pick.hall c.drive_pick.new.hall c.args.port.now.entries c.loop-pick.port.entries c.drive_pick.new.port.entries c.loop-pick.invariant.later c.drive_pick.ensures.later
 
-pub returns-in_err-drive_pick-clause-going : goal.returns-in_err-drive_pick-clause-going
-returns-in_err-drive_pick-clause-going g c = going_later g.M.Machine.code g.M.Rule.Asks.asks c.args.shells.now.items c.drive_pick.new.shells.items c.args.hall.now c.drive_pick.new.hall c.args.port.now.entries c.drive_pick.new.port.entries (later_on g.M.Machine.code g.M.Rule.Asks.asks c.args.shells.now.items c.loop-pick.shells.items c.drive_pick.new.shells.items c.args.hall.now c.loop-pick.hall c.drive_pick.new.hall c.args.port.now.entries c.loop-pick.port.entries c.drive_pick.new.port.entries c.loop-pick.invariant.later c.drive_pick.ensures.later)
+pub returns-in_err-_driven-clause-going : goal.returns-in_err-_driven-clause-going
+returns-in_err-_driven-clause-going g c = going_later g.M.Machine.code g.M.Rule.Asks.asks c.args.shells.now.items c.drive_pick.new.shells.items c.args.hall.now c.drive_pick.new.hall c.args.port.now.entries c.drive_pick.new.port.entries (later_on g.M.Machine.code g.M.Rule.Asks.asks c.args.shells.now.items c.loop-pick.shells.items c.drive_pick.new.shells.items c.args.hall.now c.loop-pick.hall c.drive_pick.new.hall c.args.port.now.entries c.loop-pick.port.entries c.drive_pick.new.port.entries c.loop-pick.invariant.later c.drive_pick.ensures.later)
 
 pub returns-clause-going : goal.returns-clause-going
 returns-clause-going g c = going_later g.M.Machine.code g.M.Rule.Asks.asks c.args.shells.now.items c.loop-pick.shells.items c.args.hall.now c.loop-pick.hall c.args.port.now.entries c.loop-pick.port.entries c.loop-pick.invariant.later
