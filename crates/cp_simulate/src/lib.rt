@@ -8,5 +8,5 @@ mod main_goal;
 mod run;
 
 pub use hall::plain_hall;
-pub use laws::simulated_runs_are_sound;
-pub use run::simulate;
+pub use laws::{a_seed_has_one_outcome, simulated_runs_are_sound, the_main_goal_is_taken};
+pub use run::{simulate, simulate_on};

@@ -1,12 +1,14 @@
 ghost use Rattle.std.specs.Prelude.{◌≡◌, ℕ, [], length, IfOk, IfSome};
 ghost use Rattle.cp_call.specs.declared.outcome.Outcome.{Outcome};
+ghost use Rattle.cp_call.specs.Sound.{Sound};
 ghost use Rattle.cp_load.specs.Answers.{IsSafe};
 ghost use Rattle.cp_engine.specs.Good.{IsGood};
 ghost use Rattle.cp_engine.specs.Walking.{State};
 ghost use Rattle.cp_hall.specs.Hall.{objects_of, history_at};
 ghost use Rattle.cp_out.specs.Port.{Records};
 ghost use Rattle.cp_schedule.specs.Record.{AreNew};
-ghost use Rattle.cp_schedule.specs.Ended.{HasRunTo};
+ghost use Rattle.cp_schedule.specs.Ended.{IsOfWorkers, HasRunTo};
+ghost use Rattle.cp_schedule.specs.Picked.{IfEnded, IsRunOfPicks};
 ghost use Rattle.cp_simulate.specs.Runs.{objects, setup, IsRunOf};
 
 use crate::hall::plain_hall;
@@ -15,7 +17,7 @@ use cp_code::ProgramCode;
 use cp_engine::Engine;
 use cp_hall::PlainHall;
 use cp_io::Sink;
-use cp_schedule::SimEnd;
+use cp_schedule::{PickEnd, Picked, SimEnd};
 use cp_shell::Shell;
 use std::alloc::{AllocError, Global};
 
@@ -75,6 +77,35 @@ pub fn simulate<S: Sink>(
         Ok((shells, hall)) => cp_schedule::simulate(alloc, seed, code.steps, shells, hall, sink),
         Err(_) => SimEnd {
             outcome: None,
+            sink,
+        },
+    }
+}
+
+/// Runs the program on so many engines, which are numbered from 1 on, one turn after another as a list of picks says, with its
+/// goal `M:main` to be done and `code.steps` steps for each goal. Each pick is the number of the engine whose turn it is. The
+/// run ends where all engines are parked after the last pick. It stops where one is not, and at the first pick that names
+/// none, or one that is parked. However it ends, the sink has what it wrote.
+pub fn simulate_on<S: Sink>(
+    alloc: Global,
+    code: &ProgramCode,
+    picks: &[u32],
+    engines: u32,
+    sink: S,
+) -> PickEnd<S>
+    requires safe { IsSafe code.now.program }
+    ensures sound { IfEnded result.end (Sound (setup code.now.program code.now.steps)) }
+    ensures workers { IfEnded result.end (IsOfWorkers code.now.steps engines) }
+    ensures records { IfEnded result.end (λ o. Records S.held S.faults sink o.port result.sink) }
+    ensures run { (o : Outcome) × HasRunTo S.held S.faults (setup code.now.program code.now.steps) code.now.steps engines sink result.sink o × IsRunOfPicks (setup code.now.program code.now.steps) picks.now code.now.steps engines result.end o }
+{
+    runs_begin_going();
+    match begin(alloc, code, engines) {
+        Ok((shells, hall)) => {
+            cp_schedule::simulate_on(alloc, picks, code.steps, shells, hall, sink)
+        }
+        Err(_) => PickEnd {
+            end: Picked::NoMemory,
             sink,
         },
     }
