@@ -1,5 +1,5 @@
 -- A worker of a crew: the shell of an engine with what it asks, writes and calls by.
-use Rattle.std.specs.Prelude.{◌≡◌, ℕ, Bool, IsTrue, false, List, ◌++◌, length}
+use Rattle.std.specs.Prelude.{◌≡◌, ℕ, Bool, IsTrue, true, false, List, ◌++◌, length}
 use Rattle.cp_call.specs.declared.call.Entry.{Entry}
 use Rattle.cp_call.specs.declared.item.Item.{Item}
 use Rattle.cp_call.specs.declared.item.RemoteCall.{RemoteCall}
@@ -26,8 +26,8 @@ pub record IsTied (rule : Rule) (count : ℕ) (objects : List Object) (serves wr
   pub puts : IsTrue (writes n)
   pub running : IsRunning rule objects (seen n) (wrote n) n items
 
--- A worker later on: the same engine with events more, at the same objects and port. Where memory has not stopped it, the
--- remote calls among these events led its caller from then to now.
+-- A worker later on: the same engine with events more, at the same objects and port. Once memory has stopped it, it stays
+-- stopped. Where memory has not, the remote calls among these events led its caller from then to now.
 pub record HasWorked {M A P C Code : Type 0} (code : M → Code) (stays : A → A → Type 0) (port_stays : P → P → Type 0) (went : C → RemoteCall → RemoteReply → C → Type 0) (w now : WorkerView M A P C) : Type 0 where
   pub number : now.shell.number ≡ w.shell.number
   pub code_is : code now.shell.machine ≡ code w.shell.machine
@@ -35,4 +35,5 @@ pub record HasWorked {M A P C Code : Type 0} (code : M → Code) (stays : A → 
   pub port : port_stays w.port now.port
   pub added : List Item
   pub items : now.shell.items ≡ w.shell.items ++ added
+  pub stops : w.shell.is_stopped ≡ true → now.shell.is_stopped ≡ true
   pub calls : now.shell.is_stopped ≡ false → Leads went w.caller added now.caller

@@ -112,17 +112,22 @@ impl Bells {
     }
 }
 
+// Looks for a short while whether the word still says that the worker waits.
+fn spin(word: &AtomicU64) {
+    for _ in 0..SPINS {
+        if word.load(Ordering::SeqCst) != WAITING {
+            return;
+        }
+        hint::spin_loop();
+    }
+}
+
 // Sleeps as long as the word says that the worker waits.
 fn sleep<R: Wait>(rt: &R, word: &AtomicU64) -> bool {
-    for round in rt.forever() {
+    spin(word);
+    for _ in rt.forever() {
         match word.load(Ordering::SeqCst) {
-            WAITING => {
-                if round < u64::from(SPINS) {
-                    hint::spin_loop();
-                } else {
-                    word.park(rt, WAITING as u32);
-                }
-            }
+            WAITING => word.park(rt, WAITING as u32),
             RUNG => {
                 word.store(AT_WORK, Ordering::SeqCst);
                 return true;

@@ -5,6 +5,7 @@ use crate::bells::Bells;
 use crate::ringing::Ringing;
 use cp_call::{Asker, Caller, Machine, Writer};
 use cp_shell::Shell;
+use std::alloc::AllocError;
 use std::marker::Model;
 use std::sync::Wait;
 
@@ -45,18 +46,32 @@ impl<'a, M: Machine, A: Asker + Drop, P: Writer + Drop, C: Caller> Worker<'a, M,
         }
     }
 
+    /// Drives the engine by one turn, and answers whether it stands parked.
+    fn take_turn(&mut self) -> Result<bool, AllocError>
+        ensures { HasWorked M.code A.stays P.stays C.went self.old self.new }
+    {
+        self.shell
+            .drive_one(&mut self.asker, &mut self.port, &mut self.caller)
+    }
+
+    /// The bells of its round.
+    fn bells(&self) -> &'a Bells {
+        self.asker.bells
+    }
+
+    fn number(&self) -> u32 {
+        self.shell.number()
+    }
+
     /// Drives the engine, one turn after another. Where the engine stands parked the worker waits at its bell, and it ends
     /// with the round, or where memory stops the engine.
     pub fn work<R: Wait>(&mut self, rt: &R)
         ensures { HasWorked M.code A.stays P.stays C.went self.old self.new }
     {
-        let bells = self.asker.bells;
-        let number = self.shell.number();
+        let bells = self.bells();
+        let number = self.number();
         for _ in rt.forever() {
-            let taken = self
-                .shell
-                .drive_one(&mut self.asker, &mut self.port, &mut self.caller);
-            match taken {
+            match self.take_turn() {
                 Err(_) => {
                     bells.leave(number);
                     return;

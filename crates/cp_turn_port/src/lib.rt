@@ -2,12 +2,14 @@
 #![tactic(auto)]
 
 mod seat;
-mod turn_port;
+mod setup;
 mod turned_port;
+mod turnstile;
 
 pub use seat::PortSeat;
-pub use turn_port::{PortPass, PortPasses, TurnPort, turn_port};
+pub use setup::turn_port;
 pub use turned_port::TurnedPort;
+pub use turnstile::{PortPass, PortPasses, TurnPort};
 
 #[cfg(test)]
 mod tests;

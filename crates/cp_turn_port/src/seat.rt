@@ -1,7 +1,7 @@
 ghost use Rattle.std.specs.Prelude.{◌≡◌};
 ghost use Rattle.cp_turn.specs.Passes.{IsOutside};
 
-use crate::turn_port::{PortPass, TurnPort};
+use crate::turnstile::{PortPass, TurnPort};
 use cp_call::{PutReply, Writer};
 use cp_io::{Bytes, Sink};
 use std::alloc::AllocError;
@@ -71,9 +71,10 @@ impl<'a, R: Wait, S: Sink> Writer for PortSeat<'a, R, S> {
     ghost stays_on = { λ r s t a b. record { turn = b.turn ∙ a.turn; number = b.number ∙ a.number } };
 
     fn write(&mut self, engine: u32, bytes: &Bytes) -> Result<PutReply, AllocError> {
-        let mut turned = self.turn.turnstile.enter(self.rt, &mut self.pass);
+        let turn = self.turn;
+        let mut turned = turn.turnstile.enter(self.rt, &mut self.pass);
         let reply = turned.put(engine, bytes);
-        self.turn.turnstile.leave(&mut self.pass, turned);
+        turn.turnstile.leave(&mut self.pass, turned);
         reply
     }
 }

@@ -1,15 +1,14 @@
-ghost use Rattle.std.specs.Prelude.{◌≡◌, ◌≢◌, ◌<◌, ℕ, List, [], ◌++◌, All, IfOk, IfErr, length};
+ghost use Rattle.std.specs.Prelude.{◌≡◌, ◌≢◌, ℕ, [], ◌++◌, List, All, length};
 ghost use Rattle.cp_list.specs.Lists.{own};
 ghost use Rattle.cp_call.specs.declared.outcome.OutEntry.{OutEntry};
 ghost use Rattle.cp_out.specs.Port.{GoesOn};
-ghost use Rattle.cp_turn.specs.Passes.{AreFresh, IsOutside, ExtendsSeen};
+ghost use Rattle.cp_turn.specs.Passes.{IsOutside, ExtendsSeen};
 
 use crate::seat::PortSeat;
 use crate::turned_port::TurnedPort;
 use cp_io::Sink;
 use cp_out::Port;
-use cp_turn::{Pass, Passes, Turnstile, make};
-use std::alloc::Global;
+use cp_turn::{Pass, Passes, Turnstile};
 use std::marker::Model;
 use std::sync::Wait;
 
@@ -32,22 +31,6 @@ impl<S: Sink> Model for TurnPort<S> {
     ghost Value = { TurnstileView (PortView S) };
 
     ghost view = { λ t. t.turnstile };
-}
-
-/// Puts a port behind a turnstile, with the passes of the callers 1 to `callers`. For want of memory the port comes back.
-pub fn turn_port<S: Sink>(
-    alloc: Global,
-    port: Port<S>,
-    callers: u32,
-) -> Result<(TurnPort<S>, PortPasses<S>), Port<S>>
-    requires some { 0 < callers }
-    ensures made { IfOk result (λ m. (m.0.callers ≡ callers) × (m.0.base ≡ port) × AreFresh m.0 m.1) }
-    ensures refused { IfErr result (λ p. p ≡ port) }
-{
-    match make(alloc, TurnedPort::new(port), callers) {
-        Ok((turnstile, passes)) => Ok((TurnPort { turnstile }, passes)),
-        Err(turned) => Err(turned.into_port()),
-    }
 }
 
 impl<S: Sink> TurnPort<S> {
