@@ -1,7 +1,7 @@
 -- A port behind a turnstile.
-use Rattle.std.specs.Prelude.{◌≡◌, List, ◌++◌, length, drop}
+use Rattle.std.specs.Prelude.{List, length, drop}
 use Rattle.cp_call.specs.declared.outcome.OutEntry.{OutEntry}
-use Rattle.cp_out.specs.Port.{PortView, GoesOn}
+use Rattle.cp_out.specs.Port.{PortView}
 
 -- a port as it is, and as it was when it went behind its turnstile
 pub record TurnedView (S : Type 0) : Type 0 where
