@@ -1,12 +1,18 @@
 -- What a worker has done, one turn after another.
 use Rattle.std.proofs.Common.{◌≡◌, ◌⊎◌, inl, inr, ℕ, List, [], ◌∷◌, ◌++◌, refl, sym, ◌∙◌, ap, subst, append-nil, append_assoc, Bool, true, false}
-use Rattle.std.specs.Prelude.{Result, Ok, Err, OnOk, MatchResult}
+use Rattle.std.specs.Prelude.{Result, Ok, Err, OnOk, MatchResult, IsTrue, length}
+use Rattle.cp_call.specs.declared.call.Entry.{Entry}
+use Rattle.cp_call.specs.declared.outcome.OutEntry.{OutEntry}
 use Rattle.cp_call.specs.declared.item.Item.{Item}
 use Rattle.cp_call.specs.declared.item.RemoteCall.{RemoteCall}
 use Rattle.cp_call.specs.declared.item.RemoteReply.{RemoteReply}
-use Rattle.cp_call.specs.Added.{Leads}
+use Rattle.cp_call.specs.Added.{HasAdded, AsksForOne, WritesForOne, Leads}
+use Rattle.cp_call.specs.Life.{Rule, IsWorkersLife}
+use Rattle.cp_call.specs.Sound.{Object}
+use Rattle.cp_call.proofs.Running.{IsRunning-added}
+use Rattle.cp_shell.specs.Shell.{ShellView}
 use Rattle.cp_shell.proofs.Calling.{leads_on}
-use Rattle.cp_round.specs.Worker.{WorkerView, HasWorked}
+use Rattle.cp_round.specs.Worker.{WorkerView, IsTied, HasWorked}
 
 awake_before : (b now : Bool) → (b ≡ true → now ≡ true) → now ≡ false → b ≡ false
 awake_before true now stops is = let w : ⊥ = cc (stops refl, is) in absurd w
@@ -42,3 +48,31 @@ module _ {M A P C Code : Type 0} (code : M → Code) (stays : A → A → Type 0
 pub turn_calls : {E : Type 0} (r : Result Bool E) (stopped : Bool) (leads : Type 0) → OnOk r leads → MatchResult r (λ parked. stopped ≡ false) (λ e. stopped ≡ true) → stopped ≡ false → leads
 turn_calls (Ok b) stopped leads ok is h = ok
 turn_calls (Err e) stopped leads ok is h = let w : ⊥ = cc (is, h) in absurd w
+
+-- a turn leaves an engine tied to what it asks and writes by
+pub still_tied : {M A P Code : Type 0} (code : M → Code) (asks : Code → Rule) (count : Code → ℕ) (objects : A → List Object) (serves : A → ℕ → Bool) (writes : P → ℕ → Bool) (seen : A → ℕ → ℕ → List Entry) (looked : A → ℕ → ℕ → ℕ) (wrote : P → ℕ → List OutEntry)
+    (s t : ShellView M) (a b : A) (p q : P) (added : List Item)
+    → IsTied (asks (code s.machine)) (count (code s.machine)) (objects a) (serves a) (writes p) (seen a) (wrote p) s.number s.items
+    → t.number ≡ s.number → code t.machine ≡ code s.machine → t.items ≡ s.items ++ added
+    → HasAdded (objects a) (seen a s.number) (seen b s.number) (wrote p s.number) (wrote q s.number) s.number added
+    → (IsWorkersLife (asks (code s.machine)) s.items → IsWorkersLife (asks (code s.machine)) t.items)
+    → AsksForOne s.number (objects a) (objects b) (serves a) (serves b) (seen a) (seen b) (looked a) (looked b)
+    → WritesForOne s.number (writes p) (writes q) (wrote p) (wrote q)
+    → IsTied (asks (code t.machine)) (count (code t.machine)) (objects b) (serves b) (writes q) (seen b) (wrote q) t.number t.items
+still_tied {M} {A} {P} {Code} code asks count objects serves writes seen looked wrote s t a b p q added tied number code_is items has life others others_written =
+    subst (λ k. IsTied (asks k) (count k) (objects b) (serves b) (writes q) (seen b) (wrote q) t.number t.items) (sym code_is)
+    (subst (λ os. IsTied rule (count (code s.machine)) os (serves b) (writes q) (seen b) (wrote q) t.number t.items) (sym others.objects_stay)
+    (subst (λ n. IsTied rule (count (code s.machine)) (objects a) (serves b) (writes q) (seen b) (wrote q) n t.items) (sym number)
+    (subst (λ xs. IsTied rule (count (code s.machine)) (objects a) (serves b) (writes q) (seen b) (wrote q) s.number xs) (sym items) here)))
+  where
+    rule : Rule
+    rule = asks (code s.machine)
+
+    here : IsTied rule (count (code s.machine)) (objects a) (serves b) (writes q) (seen b) (wrote q) s.number (s.items ++ added)
+    here = record {
+      counts = tied.counts;
+      asks = subst (λ x. IsTrue x) (sym (others.serves_stay s.number)) tied.asks;
+      puts = subst (λ x. IsTrue x) (sym (others_written.serves_stay s.number)) tied.puts;
+      running = IsRunning-added rule (objects a) (seen a s.number) (seen b s.number) (wrote p s.number) (wrote q s.number) s.number s.items added tied.running has
+          (subst (λ xs. IsWorkersLife rule xs) items (life tied.running.life));
+    }

@@ -16,6 +16,8 @@ pub fn run_round<
     P: Writer + Drop + Send,
     C: Caller + Send,
 >(rt: &R, workers: &mut [Worker<'_, M, A, P, C>])
+where
+    M::Rule: Send,
     ensures { (k : ℕ) (d : WorkerView M A P C) → k < length workers.old → HasWorked M.code A.stays P.stays C.went (slice_index_or workers.old k d) (slice_index_or workers.new k d) }
 {
     let threads = workers.len();
