@@ -1,12 +1,12 @@
 -- What a worker has done, one turn after another.
-use Rattle.std.proofs.Common.{◌≡◌, ◌⊎◌, inl, inr, ℕ, List, [], ◌∷◌, ◌++◌, refl, sym, ◌∙◌, ap, subst, append-nil, append_assoc, Bool, true, false}
-use Rattle.std.specs.Prelude.{Result, Ok, Err, OnOk, MatchResult, IsTrue, length}
+use Rattle.std.proofs.Common.{◌≡◌, ℕ, List, [], ◌++◌, refl, sym, ◌∙◌, ap, subst, append-nil, append_assoc, Bool, true, false}
+use Rattle.std.specs.Prelude.{Result, Ok, Err, OnOk, MatchResult, IsTrue}
 use Rattle.cp_call.specs.declared.call.Entry.{Entry}
 use Rattle.cp_call.specs.declared.outcome.OutEntry.{OutEntry}
 use Rattle.cp_call.specs.declared.item.Item.{Item}
 use Rattle.cp_call.specs.declared.item.RemoteCall.{RemoteCall}
 use Rattle.cp_call.specs.declared.item.RemoteReply.{RemoteReply}
-use Rattle.cp_call.specs.Added.{HasAdded, AsksForOne, WritesForOne, Leads}
+use Rattle.cp_call.specs.Added.{HasAdded, AsksForOne, WritesForOne}
 use Rattle.cp_call.specs.Life.{Rule, IsWorkersLife}
 use Rattle.cp_call.specs.Sound.{Object}
 use Rattle.cp_call.proofs.Running.{IsRunning-added}

@@ -88,11 +88,11 @@ impl<'a, M: Machine, A: Asker + Drop, P: Writer + Drop, C: Caller> Worker<'a, M,
 
     /// What the worker was made of, as it is now.
     pub fn into_parts(self) -> (Shell<M>, A, P, C)
-        ensures shell { result.0 ≡ self.shell }
-        ensures asker { result.1 ≡ self.asker }
-        ensures port { result.2 ≡ self.port }
-        ensures caller { result.3 ≡ self.caller }
-        ensures tied { IsTied (M.Rule.asks (M.code self.shell.machine)) (M.Rule.objects (M.code self.shell.machine)) (A.objects self.asker) (A.serves self.asker) (P.serves self.port) (A.seen self.asker) (P.wrote self.port) self.shell.number self.shell.items }
+        ensures shell { result.0 ≡ self.entry.shell }
+        ensures asker { result.1 ≡ self.entry.asker }
+        ensures port { result.2 ≡ self.entry.port }
+        ensures caller { result.3 ≡ self.entry.caller }
+        ensures tied { IsTied (M.Rule.asks (M.code self.entry.shell.machine)) (M.Rule.objects (M.code self.entry.shell.machine)) (A.objects self.entry.asker) (A.serves self.entry.asker) (P.serves self.entry.port) (A.seen self.entry.asker) (P.wrote self.entry.port) self.entry.shell.number self.entry.shell.items }
     {
         let Worker {
             shell,
