@@ -44,11 +44,6 @@ module _ {M A P C Code : Type 0} (code : M → Code) (stays : A → A → Type 0
     calls = λ h. leads_on went w.caller a.added b.added x.caller y.caller (a.calls (awake_before x.shell.is_stopped y.shell.is_stopped b.stops h)) (b.calls h);
   }
 
--- where a turn was answered, the remote calls that it made led the caller on; where it was not, memory has stopped the shell
-pub turn_calls : {E : Type 0} (r : Result Bool E) (stopped : Bool) (leads : Type 0) → OnOk r leads → MatchResult r (λ parked. stopped ≡ false) (λ e. stopped ≡ true) → stopped ≡ false → leads
-turn_calls (Ok b) stopped leads ok is h = ok
-turn_calls (Err e) stopped leads ok is h = let w : ⊥ = cc (is, h) in absurd w
-
 -- a turn leaves an engine tied to what it asks and writes by
 pub still_tied : {M A P Code : Type 0} (code : M → Code) (asks : Code → Rule) (count : Code → ℕ) (objects : A → List Object) (serves : A → ℕ → Bool) (writes : P → ℕ → Bool) (seen : A → ℕ → ℕ → List Entry) (looked : A → ℕ → ℕ → ℕ) (wrote : P → ℕ → List OutEntry)
     (s t : ShellView M) (a b : A) (p q : P) (added : List Item)
