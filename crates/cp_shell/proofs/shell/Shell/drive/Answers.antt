@@ -38,15 +38,15 @@ pub returns-in-Ok-true-clause-code : goal.returns-in-Ok-true-clause-code
 returns-in-Ok-true-clause-code g c = c.drive_one.ensures.code ∙ c.loop.invariant.code
 
 pub returns-in-Ok-true-clause-added : goal.returns-in-Ok-true-clause-added
-returns-in-Ok-true-clause-added g c = 
+returns-in-Ok-true-clause-added g c =
     parks_on g.C.Caller.went (g.A.Asker.objects c.args.asker.now) (g.A.Asker.objects c.loop.asker) (g.A.Asker.seen c.args.asker.now) (g.A.Asker.seen c.loop.asker) (g.A.Asker.seen c.drive_one.new.asker) (g.P.Writer.wrote c.args.port.now) (g.P.Writer.wrote c.loop.port) (g.P.Writer.wrote c.drive_one.new.port) c.args.caller.now c.loop.caller c.drive_one.new.caller c.args.self.now.number c.loop.self.number c.args.self.now.items c.loop.self.items c.drive_one.new.self.items c.in-Ok-true.ensures.added.0 c.parked_on.result c.loop.invariant.others.objects_stay c.loop.invariant.number c.loop.invariant.driven c.in-Ok-true.ensures.added.1 c.in-Ok-true.ensures.added.2 c.in-Ok-true.ensures.added.3
 
 pub returns-in-Ok-true-clause-life : goal.returns-in-Ok-true-clause-life
-returns-in-Ok-true-clause-life g c = 
+returns-in-Ok-true-clause-life g c =
     life_on g.M.Rule.Asks.asks (g.M.Machine.code c.loop.self.machine) (g.M.Machine.code c.args.self.now.machine) c.args.self.now.items c.loop.self.items c.drive_one.new.self.items c.loop.invariant.code c.loop.invariant.life c.drive_one.ensures.life
 
 pub returns-in-Ok-true-clause-ended : goal.returns-in-Ok-true-clause-ended
-returns-in-Ok-true-clause-ended g c = 
+returns-in-Ok-true-clause-ended g c =
     ends_on (g.A.Asker.objects c.args.asker.now) (g.A.Asker.objects c.loop.asker) (g.A.Asker.seen c.drive_one.new.asker) c.args.self.now.number c.loop.self.number c.args.self.now.items c.drive_one.new.self.items c.drive_one.new.self.is_stopped (parked_object c.drive_one.new.self.items) c.parked_on.result c.loop.invariant.others.objects_stay c.loop.invariant.number c.parked_on.ensures c.in-Ok-true.ensures.stopped (λ p parked.
     turn_parks (g.M.Rule.Asks.asks (g.M.Machine.code c.loop.self.machine)) (g.A.Asker.objects c.loop.asker) (g.A.Asker.seen c.drive_one.new.asker c.loop.self.number) (g.P.Writer.wrote c.drive_one.new.port c.loop.self.number) c.loop.self.number c.args.self.now.items c.loop.self.items c.drive_one.new.self.items c.loop.invariant.driven.added p c.loop.invariant.driven.is c.loop.invariant.driven.awake c.in-Ok-true.ensures.turn (runs_after (λ m. g.M.Rule.Asks.asks (g.M.Machine.code m)) (g.A.Asker.objects c.loop.asker) (g.A.Asker.seen c.loop.asker) (g.A.Asker.seen c.drive_one.new.asker) (g.P.Writer.wrote c.loop.port) (g.P.Writer.wrote c.drive_one.new.port) c.loop.self c.drive_one.new.self c.in-Ok-true.ensures.added.0 c.loop.invariant.work (works c.loop.self.is_stopped (λ h. (c.in-Ok-true.ensures.stays_stopped h).0)) c.drive_one.ensures.life c.in-Ok-true.ensures.added.1 c.in-Ok-true.ensures.added.2) parked)
 
@@ -54,11 +54,11 @@ pub returns-in-Ok-true-clause-stays_stopped : goal.returns-in-Ok-true-clause-sta
 returns-in-Ok-true-clause-stays_stopped g c = λ h. never ((c.in-Ok-true.ensures.stays_stopped (ap (λ v. v.is_stopped) (c.loop.invariant.stopped h) ∙ h)).0)
 
 pub returns-in-Ok-true-clause-others : goal.returns-in-Ok-true-clause-others
-returns-in-Ok-true-clause-others g c = 
+returns-in-Ok-true-clause-others g c =
     asks_on c.args.self.now.number c.loop.self.number (g.A.Asker.objects c.args.asker.now) (g.A.Asker.objects c.loop.asker) (g.A.Asker.objects c.drive_one.new.asker) (g.A.Asker.serves c.args.asker.now) (g.A.Asker.serves c.loop.asker) (g.A.Asker.serves c.drive_one.new.asker) (g.A.Asker.seen c.args.asker.now) (g.A.Asker.seen c.loop.asker) (g.A.Asker.seen c.drive_one.new.asker) (g.A.Asker.looked c.args.asker.now) (g.A.Asker.looked c.loop.asker) (g.A.Asker.looked c.drive_one.new.asker) c.loop.invariant.number c.loop.invariant.others c.drive_one.ensures.others
 
 pub returns-in-Ok-true-clause-others_written : goal.returns-in-Ok-true-clause-others_written
-returns-in-Ok-true-clause-others_written g c = 
+returns-in-Ok-true-clause-others_written g c =
     writes_on c.args.self.now.number c.loop.self.number (g.P.Writer.serves c.args.port.now) (g.P.Writer.serves c.loop.port) (g.P.Writer.serves c.drive_one.new.port) (g.P.Writer.wrote c.args.port.now) (g.P.Writer.wrote c.loop.port) (g.P.Writer.wrote c.drive_one.new.port) c.loop.invariant.number c.loop.invariant.others_written c.drive_one.ensures.others_written
 
 pub returns-in-Ok-true-clause-asker : goal.returns-in-Ok-true-clause-asker
@@ -74,22 +74,22 @@ pub returns-in-Err-clause-code : goal.returns-in-Err-clause-code
 returns-in-Err-clause-code g c = c.drive_one.ensures.code ∙ c.loop.invariant.code
 
 pub returns-in-Err-clause-added : goal.returns-in-Err-clause-added
-returns-in-Err-clause-added g c = 
+returns-in-Err-clause-added g c =
     stops_on g.C.Caller.went (g.A.Asker.objects c.args.asker.now) (g.A.Asker.objects c.loop.asker) (g.A.Asker.seen c.args.asker.now) (g.A.Asker.seen c.loop.asker) (g.A.Asker.seen c.drive_one.new.asker) (g.P.Writer.wrote c.args.port.now) (g.P.Writer.wrote c.loop.port) (g.P.Writer.wrote c.drive_one.new.port) c.args.caller.now c.loop.caller c.args.self.now.number c.loop.self.number c.args.self.now.items c.loop.self.items c.drive_one.new.self.items c.in-Err.ensures.added.0 c.loop.invariant.others.objects_stay c.loop.invariant.number c.loop.invariant.driven c.in-Err.ensures.added.1 c.in-Err.ensures.added.2
 
 pub returns-in-Err-clause-life : goal.returns-in-Err-clause-life
-returns-in-Err-clause-life g c = 
+returns-in-Err-clause-life g c =
     life_on g.M.Rule.Asks.asks (g.M.Machine.code c.loop.self.machine) (g.M.Machine.code c.args.self.now.machine) c.args.self.now.items c.loop.self.items c.drive_one.new.self.items c.loop.invariant.code c.loop.invariant.life c.drive_one.ensures.life
 
 pub returns-in-Err-clause-stays_stopped : goal.returns-in-Err-clause-stays_stopped
 returns-in-Err-clause-stays_stopped g c = λ h. (c.in-Err.ensures.stays_stopped (ap (λ v. v.is_stopped) (c.loop.invariant.stopped h) ∙ h)).1 ∙ c.loop.invariant.stopped h
 
 pub returns-in-Err-clause-others : goal.returns-in-Err-clause-others
-returns-in-Err-clause-others g c = 
+returns-in-Err-clause-others g c =
     asks_on c.args.self.now.number c.loop.self.number (g.A.Asker.objects c.args.asker.now) (g.A.Asker.objects c.loop.asker) (g.A.Asker.objects c.drive_one.new.asker) (g.A.Asker.serves c.args.asker.now) (g.A.Asker.serves c.loop.asker) (g.A.Asker.serves c.drive_one.new.asker) (g.A.Asker.seen c.args.asker.now) (g.A.Asker.seen c.loop.asker) (g.A.Asker.seen c.drive_one.new.asker) (g.A.Asker.looked c.args.asker.now) (g.A.Asker.looked c.loop.asker) (g.A.Asker.looked c.drive_one.new.asker) c.loop.invariant.number c.loop.invariant.others c.drive_one.ensures.others
 
 pub returns-in-Err-clause-others_written : goal.returns-in-Err-clause-others_written
-returns-in-Err-clause-others_written g c = 
+returns-in-Err-clause-others_written g c =
     writes_on c.args.self.now.number c.loop.self.number (g.P.Writer.serves c.args.port.now) (g.P.Writer.serves c.loop.port) (g.P.Writer.serves c.drive_one.new.port) (g.P.Writer.wrote c.args.port.now) (g.P.Writer.wrote c.loop.port) (g.P.Writer.wrote c.drive_one.new.port) c.loop.invariant.number c.loop.invariant.others_written c.drive_one.ensures.others_written
 
 pub returns-in-Err-clause-asker : goal.returns-in-Err-clause-asker
