@@ -74,6 +74,13 @@ fn run_bytes(alloc: Global, bytes: Bytes) -> Result<End, AllocError> {
     run(alloc, files, Fails::new(alloc))
 }
 
+/// Runs the program, whose file fails when it is read.
+fn run_unread(alloc: Global) -> Result<End, AllocError> {
+    let rows = file(alloc, b"m.pl", program(alloc)?)?;
+    let fails = failing(alloc, 1, 0)?;
+    run(alloc, MemFiles::new(alloc, rows, fails), Fails::new(alloc))
+}
+
 /// A comment of so many bytes.
 fn comment(alloc: Global, count: usize) -> Result<Bytes, AllocError> {
     let mut bytes = Bytes::new(alloc);
@@ -124,34 +131,45 @@ fn tell_file(rt: &impl Print, name: &str, end: &End) -> io::Result<()> {
     )
 }
 
+/// Writes the line of a run with a file of these bytes.
+fn tell_bytes(rt: &impl Print, alloc: Global, name: &str, bytes: Bytes) -> io::Result<()> {
+    let end = run_bytes(alloc, bytes)?;
+    tell_file(rt, name, &end)
+}
+
+/// Writes the line of a run whose file cannot be read.
+fn tell_unread(rt: &impl Print, alloc: Global) -> io::Result<()> {
+    let end = run_unread(alloc)?;
+    tell_file(rt, "a file that cannot be read", &end)
+}
+
+/// Writes the line of a run whose file is missing.
+fn tell_missing(rt: &impl Print, alloc: Global) -> io::Result<()> {
+    let none = MemFiles::new(alloc, FileRows::new(alloc), Fails::new(alloc));
+    let end = run(alloc, none, Fails::new(alloc))?;
+    tell_file(rt, "a file that is missing", &end)
+}
+
+/// Writes the line of a run whose file has a byte that is no UTF-8.
+fn tell_latin(rt: &impl Print, alloc: Global) -> io::Result<()> {
+    let latin = bytes_of(alloc, b":- module(m, [main/0]).\nmain :- write('\xe9').\n")?;
+    tell_bytes(rt, alloc, "a file that is not UTF-8", latin)
+}
+
+/// Writes the line of a run whose file is a comment of so many bytes.
+fn tell_comment(rt: &impl Print, alloc: Global, name: &str, count: usize) -> io::Result<()> {
+    let bytes = comment(alloc, count)?;
+    tell_bytes(rt, alloc, name, bytes)
+}
+
 /// Writes the lines of the runs with such files.
 fn tell_files(rt: &impl Print, alloc: Global) -> io::Result<()> {
-    let rows = file(alloc, b"m.pl", program(alloc)?)?;
-    let failing_files = MemFiles::new(alloc, rows, failing(alloc, 1, 0)?);
-    tell_file(
-        rt,
-        "a file that cannot be read",
-        &run(alloc, failing_files, Fails::new(alloc))?,
-    )?;
-    let none = MemFiles::new(alloc, FileRows::new(alloc), Fails::new(alloc));
-    tell_file(
-        rt,
-        "a file that is missing",
-        &run(alloc, none, Fails::new(alloc))?,
-    )?;
-    tell_file(rt, "an empty file", &run_bytes(alloc, Bytes::new(alloc))?)?;
-    let latin = bytes_of(alloc, b":- module(m, [main/0]).\nmain :- write('\xe9').\n")?;
-    tell_file(rt, "a file that is not UTF-8", &run_bytes(alloc, latin)?)?;
-    tell_file(
-        rt,
-        "a file of the most bytes",
-        &run_bytes(alloc, comment(alloc, MOST)?)?,
-    )?;
-    tell_file(
-        rt,
-        "a file of one byte more",
-        &run_bytes(alloc, comment(alloc, MOST + 1)?)?,
-    )
+    tell_unread(rt, alloc)?;
+    tell_missing(rt, alloc)?;
+    tell_bytes(rt, alloc, "an empty file", Bytes::new(alloc))?;
+    tell_latin(rt, alloc)?;
+    tell_comment(rt, alloc, "a file of the most bytes", MOST)?;
+    tell_comment(rt, alloc, "a file of one byte more", MOST + 1)
 }
 
 fn tell(rt: &impl Print, alloc: Global) -> io::Result<()> {
