@@ -9,6 +9,3 @@ mod now;
 mod stop;
 
 pub use evaluation::{EvalError, eval};
-
-#[cfg(test)]
-mod tests;

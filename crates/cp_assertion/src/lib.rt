@@ -27,6 +27,3 @@ pub use regtype::{add_regtype, is_regular};
 pub use standing::Standing;
 pub use type_error::TypeError;
 pub use type_uses::TypeUses;
-
-#[cfg(test)]
-mod tests;

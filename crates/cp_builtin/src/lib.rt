@@ -26,6 +26,3 @@ pub use ball::{context_of, error_ball};
 pub use call::call_builtin;
 pub use compound::{atom, with_one, with_two};
 pub use outcome::Outcome1;
-
-#[cfg(test)]
-mod tests;

@@ -35,6 +35,3 @@ pub use outcome::{
 pub use refused::Refused;
 pub use traits::{Asker, Asks, Caller, Machine, Writer};
 pub use wire::wire_size;
-
-#[cfg(test)]
-mod tests;

@@ -32,6 +32,3 @@ pub use program::{Names, OpTables, Program};
 pub use prop::Prop;
 pub use status::Status;
 pub use type_row::{TypeRow, Types};
-
-#[cfg(test)]
-mod tests;

@@ -8,6 +8,3 @@ mod unify;
 pub use key::{Key, agrees, key_of};
 pub use steps::Steps;
 pub use unify::unifiable_counted;
-
-#[cfg(test)]
-mod tests;

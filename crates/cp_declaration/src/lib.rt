@@ -20,6 +20,3 @@ pub use laws::lists_and_joined_predicates_are_read_exactly;
 pub use marks::Marks;
 pub use names::Names;
 pub use said::{declaration_of, is_declaration};
-
-#[cfg(test)]
-mod tests;

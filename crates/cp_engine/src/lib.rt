@@ -11,6 +11,3 @@ mod started;
 mod walks;
 
 pub use engine::Engine;
-
-#[cfg(test)]
-mod tests;

@@ -11,6 +11,3 @@ mod waking;
 
 pub use cp_call::Refused;
 pub use pred::Pred;
-
-#[cfg(test)]
-mod tests;

@@ -62,6 +62,3 @@ pub fn generate(alloc: Global, items: u32) -> Result<Bytes, AllocError>
     let digits = buffer.format(items).as_bytes();
     joined(alloc, BEFORE, BETWEEN, AFTER, digits)
 }
-
-#[cfg(test)]
-mod tests;

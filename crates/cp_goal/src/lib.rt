@@ -18,6 +18,3 @@ pub use relation::Relation;
 pub use type_test::TypeTest;
 pub use unary::Unary;
 pub use why::Why;
-
-#[cfg(test)]
-mod tests;

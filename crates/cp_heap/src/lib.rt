@@ -18,6 +18,3 @@ pub use look::Look;
 pub use mark::Mark;
 pub use reference::{Ref, Refs};
 pub use word::Word;
-
-#[cfg(test)]
-mod tests;

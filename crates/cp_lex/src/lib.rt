@@ -24,6 +24,3 @@ pub use laws::{
 };
 pub use scan::{scan_text, tokens_of};
 pub use token::{Refusal, Scan, Token, TokenKind, Tokens};
-
-#[cfg(test)]
-mod tests;

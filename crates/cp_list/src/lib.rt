@@ -7,6 +7,3 @@ mod reserved_list;
 
 pub use list_of::ListOf;
 pub use reserved_list::ReservedList;
-
-#[cfg(test)]
-mod tests;

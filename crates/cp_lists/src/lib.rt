@@ -15,6 +15,3 @@ pub use laws::texts_are_read_back;
 pub use spine::Spine;
 pub use text::{Codes, text_of, utf8_of};
 pub use text_error::TextError;
-
-#[cfg(test)]
-mod tests;

@@ -20,6 +20,3 @@ mod types;
 
 pub use error::LoadError;
 pub use loading::{Need, load};
-
-#[cfg(test)]
-mod tests;

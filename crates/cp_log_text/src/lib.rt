@@ -16,6 +16,3 @@ mod remote;
 mod reply;
 
 pub use outcome::log_text;
-
-#[cfg(test)]
-mod tests;

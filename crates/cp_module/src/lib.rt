@@ -27,6 +27,3 @@ pub use part::{ModulePart, ReadClauses};
 pub use paths::{base_of, imported_file};
 pub use refusal::Refusal;
 pub use why::Why;
-
-#[cfg(test)]
-mod tests;

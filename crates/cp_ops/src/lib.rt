@@ -14,6 +14,3 @@ pub use laws::{
     standard_table_is_lawful,
 };
 pub use table::{OpError, OpTable};
-
-#[cfg(test)]
-mod tests;

@@ -4,6 +4,3 @@
 mod port;
 
 pub use port::Port;
-
-#[cfg(test)]
-mod tests;

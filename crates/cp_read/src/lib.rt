@@ -22,6 +22,3 @@ pub use laws::{
     rules_derive_no_second, what_is_written_reads_back,
 };
 pub use reader::Reader;
-
-#[cfg(test)]
-mod tests;

@@ -20,6 +20,3 @@ mod unloaded;
 mod waiting;
 
 pub use local::{LocalEnd, local_top};
-
-#[cfg(test)]
-mod tests;

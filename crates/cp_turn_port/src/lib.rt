@@ -10,6 +10,3 @@ pub use seat::PortSeat;
 pub use setup::turn_port;
 pub use turned_port::TurnedPort;
 pub use turnstile::{PortPass, PortPasses, TurnPort};
-
-#[cfg(test)]
-mod tests;

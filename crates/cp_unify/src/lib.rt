@@ -11,6 +11,3 @@ mod words;
 
 pub use comparison::compare;
 pub use unification::{unify, unify_since};
-
-#[cfg(test)]
-mod tests;

@@ -17,6 +17,3 @@ mod threads;
 pub use command::{Command, Words, WordsError};
 pub use grammar::command_of;
 pub use threads::wants_threads;
-
-#[cfg(test)]
-mod tests;

@@ -11,6 +11,3 @@ mod write;
 mod writer;
 
 pub use write::{write_text, writeq_text};
-
-#[cfg(test)]
-mod tests;
