@@ -27,10 +27,7 @@ pub(crate) fn first_name(alloc: Global, parts: &[ModulePart]) -> Result<Name, Al
 {
     match parts {
         [part, ..] => name_of(alloc, part),
-        [] => match Name::of(alloc, b"".as_slice()) {
-            Ok(name) => Ok(name),
-            Err(_) => Err(AllocError),
-        },
+        [] => Name::known(alloc, b""),
     }
 }
 

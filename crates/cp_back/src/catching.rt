@@ -112,21 +112,12 @@ fn catch_of(alloc: Global, seer: &Name) -> Result<PredName, AllocError>
     ensures { IfOk result (λ pred. full_name pred ≡ context_term seer.now (codes "catch") 3) }
 {
     let module = seer.clone()?;
-    let name = name_of(alloc, b"catch")?;
+    let name = Name::known(alloc, b"catch")?;
     Ok(PredName {
         module,
         name,
         arity: 3,
     })
-}
-
-fn name_of(alloc: Global, text: &[u8]) -> Result<Name, AllocError>
-    ensures { IfOk result (λ name. name ≡ text.now) }
-{
-    match Name::of(alloc, text) {
-        Ok(name) => Ok(name),
-        Err(_) => Err(AllocError),
-    }
 }
 
 fn drop_thrown(_ball: Term, _catchers: Catchers) {}

@@ -8,7 +8,7 @@ ghost use Rattle.cp_goal.specs.Builtins as rows;
 ghost use Rattle.cp_goal.specs.Builtins.{by};
 ghost use Rattle.cp_builtin.specs.Ends.{HasEnded};
 
-use crate::compound::name_of;
+use cp_term::Name;
 use crate::ended::Ended;
 use crate::errors::{domain_error, type_error};
 use crate::unified::unified_atom;
@@ -82,9 +82,9 @@ fn unified_order(
     ensures extends { Extends heap.old heap.new }
 {
     let name = match order {
-        Ordering::Less => name_of(alloc, b"<")?,
-        Ordering::Equal => name_of(alloc, b"=")?,
-        Ordering::Greater => name_of(alloc, b">")?,
+        Ordering::Less => Name::known(alloc, b"<")?,
+        Ordering::Equal => Name::known(alloc, b"=")?,
+        Ordering::Greater => Name::known(alloc, b">")?,
     };
     unified_atom(alloc, heap, x, &name)
 }

@@ -37,17 +37,14 @@ fn check_ball(alloc: Global, what: &[u8], pred: &PredName, number: u32) -> Resul
     push_what(alloc, &mut cells, what)?;
     push_indicator(alloc, &mut cells, pred)?;
     cells.push(Cell::Int(i64::from(number)))?;
-    match Term::from_cells(cells) {
-        Ok(ball) => Ok(ball),
-        Err(_) => unreachable!(),
-    }
+    Ok(Term::known(cells))
 }
 
 fn push_what(alloc: Global, cells: &mut Cells, what: &[u8]) -> Result<(), AllocError>
     ensures { OnOk result (cells.new ≡ cells.old ++ FuncCell (codes "rtcheck") 3 ∷ AtomCell what.now ∷ []) }
 {
-    let check = name_of(alloc, b"rtcheck")?;
-    let what = name_of(alloc, what)?;
+    let check = Name::known(alloc, b"rtcheck")?;
+    let what = Name::known(alloc, what)?;
     cells.push(Cell::Func(check, 3))?;
     cells.push(Cell::Atom(what))?;
     Ok(())
@@ -65,7 +62,7 @@ fn push_indicator(alloc: Global, cells: &mut Cells, pred: &PredName) -> Result<(
 fn push_module(alloc: Global, cells: &mut Cells, owner: &Name) -> Result<(), AllocError>
     ensures { OnOk result (cells.new ≡ cells.old ++ FuncCell (codes ":") 2 ∷ AtomCell owner.now ∷ []) }
 {
-    let colon = name_of(alloc, b":")?;
+    let colon = Name::known(alloc, b":")?;
     cells.push(Cell::Func(colon, 2))?;
     cells.push(Cell::Atom(owner.clone()?))?;
     Ok(())
@@ -74,18 +71,8 @@ fn push_module(alloc: Global, cells: &mut Cells, owner: &Name) -> Result<(), All
 fn push_name(alloc: Global, cells: &mut Cells, name: &Name) -> Result<(), AllocError>
     ensures { OnOk result (cells.new ≡ cells.old ++ FuncCell (codes "/") 2 ∷ AtomCell name.now ∷ []) }
 {
-    let slash = name_of(alloc, b"/")?;
+    let slash = Name::known(alloc, b"/")?;
     cells.push(Cell::Func(slash, 2))?;
     cells.push(Cell::Atom(name.clone()?))?;
     Ok(())
-}
-
-/// The name with these bytes.
-pub(crate) fn name_of(alloc: Global, text: &[u8]) -> Result<Name, AllocError>
-    ensures { IfOk result (λ name. name ≡ text.now) }
-{
-    match Name::of(alloc, text) {
-        Ok(name) => Ok(name),
-        Err(_) => Err(AllocError),
-    }
 }

@@ -54,15 +54,10 @@ impl<'p> Engine<'p> {
 
 /// The atom `true`.
 fn truth(alloc: Global) -> Result<Term, AllocError> {
-    let Ok(name) = Name::of(alloc, b"true") else {
-        return Err(AllocError);
-    };
+    let name = Name::known(alloc, b"true")?;
     let mut cells = Cells::new(alloc);
     cells.push(Cell::Atom(name))?;
-    match Term::from_cells(cells) {
-        Ok(term) => Ok(term),
-        Err(_) => Err(AllocError),
-    }
+    Ok(Term::known(cells))
 }
 
 impl<'p> Machine for Engine<'p> {

@@ -40,9 +40,7 @@ pub fn call_of(alloc: Global, seer: &Name) -> Result<PredName, AllocError>
     ensures { IfOk result (λ p. full_name p ≡ context seer.now (codes "call") 1) }
 {
     let module = seer.clone()?;
-    let Ok(name) = Name::of(alloc, b"call") else {
-        return Err(AllocError);
-    };
+    let name = Name::known(alloc, b"call")?;
     Ok(PredName {
         module,
         name,

@@ -20,11 +20,11 @@ pub(crate) fn context_of(
     name: &[u8],
     arity: u16,
 ) -> Result<PredName, AllocError>
+    requires utf8 { IsUtf8 name.now }
+    requires len { length name.now ≤ 1024 }
     ensures { IfOk result (λ p. full_name p ≡ builtins.context seer.now name.now arity) }
 {
-    let Ok(name) = Name::of(alloc, name) else {
-        return Err(AllocError);
-    };
+    let name = Name::known(alloc, name)?;
     let module = seer.clone()?;
     Ok(PredName {
         module,

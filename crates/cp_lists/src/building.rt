@@ -21,8 +21,8 @@ pub fn list_of(alloc: Global, heap: &mut Heap, elements: &Refs) -> Result<Ref, A
     ensures gains { GainsTerms heap.old heap.new }
 {
     let _mark = heap.mark();
-    let dot = name_of(alloc, b".")?;
-    let end = name_of(alloc, b"[]")?;
+    let dot = Name::known(alloc, b".")?;
+    let end = Name::known(alloc, b"[]")?;
     let end = heap.atom(&end)?;
     elements_before(alloc, heap, &dot, elements.as_slice(), end)
 }
@@ -78,15 +78,6 @@ fn two(alloc: Global, first: Ref, second: Ref) -> Result<Refs, AllocError>
     refs.push(first)?;
     refs.push(second)?;
     Ok(refs)
-}
-
-fn name_of(alloc: Global, text: &[u8]) -> Result<Name, AllocError>
-    ensures { IfOk result (λ name. name ≡ text.now) }
-{
-    match Name::of(alloc, text) {
-        Ok(name) => Ok(name),
-        Err(_) => Err(AllocError),
-    }
 }
 
 /// Makes the list of the numbers of the characters of a text.

@@ -57,8 +57,6 @@ fn defines_main(alloc: Global, clauses: &[ReadClause]) -> Result<bool, AllocErro
 fn main_pred(alloc: Global) -> Result<Indicator, AllocError>
     ensures { IfOk result (λ pred. pred ≡ main) }
 {
-    match Name::of(alloc, b"main") {
-        Ok(name) => Ok(Indicator { name, arity: 0 }),
-        Err(_) => Err(AllocError),
-    }
+    let name = Name::known(alloc, b"main")?;
+    Ok(Indicator { name, arity: 0 })
 }

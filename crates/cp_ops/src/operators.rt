@@ -5,7 +5,7 @@ ghost use Rattle.cp_ops.specs.Rows.{gathered, listed_row};
 
 use crate::fix::Fix;
 use crate::spelled::Spelled;
-use cp_term::{Name, NameError};
+use cp_term::Name;
 use indexmap::IndexMap;
 use std::alloc::{AllocError, Global};
 use std::marker::Model;
@@ -43,7 +43,7 @@ impl Operators {
     {
         let mut rows = Operators::new(alloc);
         for (priority, fix, text) in list {
-            rows.put(named(alloc, text)?, *priority, *fix)?;
+            rows.put(Name::known(alloc, text.as_bytes())?, *priority, *fix)?;
         }
         Ok(rows)
     }
@@ -82,17 +82,5 @@ impl Operators {
         ensures { self.new ≡ without_row name.now self.old }
     {
         let _row = self.rows.shift_remove(Spelled { bytes: name });
-    }
-}
-
-fn named(alloc: Global, text: &str) -> Result<Name, AllocError>
-    requires { length text.now ≤ 1024 }
-    ensures { IfOk result (λ name. name ≡ text.now) }
-{
-    match Name::of(alloc, text.as_bytes()) {
-        Ok(name) => Ok(name),
-        Err(NameError::NoMemory) => Err(AllocError),
-        Err(NameError::NotUtf8) => unreachable!(),
-        Err(NameError::TooLong) => unreachable!(),
     }
 }

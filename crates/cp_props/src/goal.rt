@@ -190,16 +190,7 @@ fn element_name(alloc: Global, rest: &[Cell]) -> Result<Name, AllocError>
 {
     match rest {
         [_, Cell::Atom(name), ..] => name.clone(),
-        _ => no_name(alloc),
-    }
-}
-
-fn no_name(alloc: Global) -> Result<Name, AllocError>
-    ensures { IfOk result (λ name. name ≡ []) }
-{
-    match Name::of(alloc, b"") {
-        Ok(name) => Ok(name),
-        Err(_) => Err(AllocError),
+        _ => Name::known(alloc, b""),
     }
 }
 

@@ -181,18 +181,6 @@ fn term_of(draft: Draft, bounds: Bounds) -> Result<Option<Term>, AllocError>
 {
     match draft.into_cells(bounds)? {
         None => Ok(None),
-        Some(cells) => Ok(Some(term_with(cells))),
-    }
-}
-
-/// The term with these cells.
-fn term_with(cells: Cells) -> Term
-    requires term { is_terms 1 cells ≡ true }
-    requires numbered { is_numbered_from 0 cells ≡ true }
-    ensures { result ≡ cells }
-{
-    match Term::from_cells(cells) {
-        Ok(term) => term,
-        Err(_) => unreachable!(),
+        Some(cells) => Ok(Some(Term::known(cells))),
     }
 }

@@ -148,15 +148,6 @@ fn within(alloc: Global, heap: &mut Heap, own: &Name, goal: Ref) -> Result<Ref, 
     with_two(alloc, heap, b":", front, goal)
 }
 
-fn name_of(alloc: Global, text: &[u8]) -> Result<Name, AllocError>
-    ensures { IfOk result (λ name. name ≡ text.now) }
-{
-    match Name::of(alloc, text) {
-        Ok(name) => Ok(name),
-        Err(_) => Err(AllocError),
-    }
-}
-
 /// What `eng_wait` asks: whether the goal with this number has ended.
 pub fn wait_goal(alloc: Global, heap: &Heap, id: Ref, context: &PredName) -> Result<Asking, Refusal>
     requires { IsPlace heap.now id }
@@ -197,11 +188,8 @@ fn ended_pattern(alloc: Global, id: i64) -> Result<Term, AllocError>
     ensures { IfOk result (λ pattern. pattern ≡ requests.ended_pattern id) }
 {
     let mut cells = Cells::new(alloc);
-    cells.push(Cell::Func(name_of(alloc, b"ended")?, 2))?;
+    cells.push(Cell::Func(Name::known(alloc, b"ended")?, 2))?;
     cells.push(Cell::Int(id))?;
     cells.push(Cell::Var(0))?;
-    match Term::from_cells(cells) {
-        Ok(pattern) => Ok(pattern),
-        Err(_) => unreachable!(),
-    }
+    Ok(Term::known(cells))
 }

@@ -16,32 +16,15 @@ pub enum Stage {
     Ends { number: i64, end: Term },
 }
 
-/// The term of these cells, which are one.
-fn term_of(cells: Cells) -> Result<Term, AllocError>
-    ensures { IfOk result (λ term. term ≡ cells) }
-{
-    match Term::from_cells(cells) {
-        Ok(term) => Ok(term),
-        Err(_) => Err(AllocError),
-    }
-}
-
-fn name(alloc: Global, text: &[u8]) -> Result<Name, AllocError>
-    ensures { IfOk result (λ name. name ≡ text.now) }
-{
-    match Name::of(alloc, text) {
-        Ok(name) => Ok(name),
-        Err(_) => Err(AllocError),
-    }
-}
-
 /// An atom as a term.
 pub(crate) fn atom(alloc: Global, text: &[u8]) -> Result<Term, AllocError>
+    requires utf8 { IsUtf8 text.now }
+    requires len { length text.now ≤ 1024 }
     ensures { IfOk result (λ term. term ≡ Atom text.now ∷ []) }
 {
     let mut cells = Cells::new(alloc);
-    cells.push(Cell::Atom(name(alloc, text)?))?;
-    term_of(cells)
+    cells.push(Cell::Atom(Name::known(alloc, text)?))?;
+    Ok(Term::known(cells))
 }
 
 fn push_all(cells: &mut Cells, term: &Term) -> Result<(), AllocError>
@@ -58,9 +41,9 @@ fn ball_term(alloc: Global, ball: &Term) -> Result<Term, AllocError>
     ensures { IfOk result (λ term. term ≡ Func (codes "ball") 1 ∷ ball.now) }
 {
     let mut cells = Cells::new(alloc);
-    cells.push(Cell::Func(name(alloc, b"ball")?, 1))?;
+    cells.push(Cell::Func(Name::known(alloc, b"ball")?, 1))?;
     push_all(&mut cells, ball)?;
-    term_of(cells)
+    Ok(Term::known(cells))
 }
 
 /// `ended(Number, End)`.
@@ -68,10 +51,10 @@ pub(crate) fn ended_term(alloc: Global, number: i64, end: &Term) -> Result<Term,
     ensures { IfOk result (λ term. term ≡ ended_fact number end.now) }
 {
     let mut cells = Cells::new(alloc);
-    cells.push(Cell::Func(name(alloc, b"ended")?, 2))?;
+    cells.push(Cell::Func(Name::known(alloc, b"ended")?, 2))?;
     cells.push(Cell::Int(number))?;
     push_all(&mut cells, end)?;
-    term_of(cells)
+    Ok(Term::known(cells))
 }
 
 /// How a goal ended, as a term.
@@ -119,5 +102,5 @@ pub(crate) fn any_term(alloc: Global) -> Result<Term, AllocError>
 {
     let mut cells = Cells::new(alloc);
     cells.push(Cell::Var(0))?;
-    term_of(cells)
+    Ok(Term::known(cells))
 }

@@ -9,30 +9,17 @@ use cp_io::{Bytes, bytes_of};
 use cp_term::{Cell, Cells, Name, NameError, PredName, Term};
 use std::alloc::{AllocError, Global};
 
-/// The name of an operator.
-fn operator(alloc: Global, text: &[u8]) -> Result<Name, AllocError>
-    requires utf8 { IsUtf8 text.now }
-    requires len { length text.now ≤ 1024 }
-    ensures { IfOk result (λ name. name ≡ text.now) }
-{
-    match Name::of(alloc, text) {
-        Ok(name) => Ok(name),
-        Err(NameError::NoMemory) => Err(AllocError),
-        Err(_) => unreachable!(),
-    }
-}
-
 /// The term `M:N/A` of a predicate.
 fn indicator(alloc: Global, pred: &PredName) -> Result<Term, AllocError>
     ensures { IfOk result (λ term. term ≡ full_name pred.now) }
 {
     let mut cells = Cells::new(alloc);
-    cells.push(Cell::Func(operator(alloc, b":")?, 2))?;
+    cells.push(Cell::Func(Name::known(alloc, b":")?, 2))?;
     cells.push(Cell::Atom(pred.module.clone()?))?;
-    cells.push(Cell::Func(operator(alloc, b"/")?, 2))?;
+    cells.push(Cell::Func(Name::known(alloc, b"/")?, 2))?;
     cells.push(Cell::Atom(pred.name.clone()?))?;
     cells.push(Cell::Int(pred.arity as i64))?;
-    Ok(term_with(cells))
+    Ok(Term::known(cells))
 }
 
 /// The text of an object's name: a predicate is written as the term `m:q/1`.

@@ -10,18 +10,6 @@ use cp_term::{Cells, Term};
 use cp_write::writeq_text;
 use std::alloc::{AllocError, Global};
 
-/// The term with these cells.
-pub(crate) fn term_with(cells: Cells) -> Term
-    requires term { is_terms 1 cells ≡ true }
-    requires numbered { is_numbered_from 0 cells ≡ true }
-    ensures { result ≡ cells }
-{
-    match Term::from_cells(cells) {
-        Ok(term) => term,
-        Err(_) => unreachable!(),
-    }
-}
-
 /// The text of a term under the standard operators.
 pub(crate) fn standard_text(alloc: Global, term: &Term) -> Result<Bytes, AllocError>
     ensures { IfOk result (λ text. text ≡ text_of quoting standard term.now) }

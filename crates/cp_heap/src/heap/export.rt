@@ -25,10 +25,7 @@ impl Heap {
         ensures too_large { result ≡ Err ExportError.TooLarge → 4096 < length (instance_at self.now at.at) }
     {
         let cells = self.exported(at.at, 4096)?;
-        match Term::from_cells(cells) {
-            Ok(term) => Ok(term),
-            Err(_) => unreachable!(),
-        }
+        Ok(Term::known(cells))
     }
 
     /// The cells of a term with all bindings, its variables numbered by first occurrence. More than `most` are too many.

@@ -50,10 +50,7 @@ impl Heap {
         ensures { IfOk result (λ t. t ≡ canon (instance_at self.now at.at)) }
     {
         let cells = self.all_cells(at.at)?;
-        match Term::from_cells(cells) {
-            Ok(term) => Ok(term),
-            Err(_) => unreachable!(),
-        }
+        Ok(Term::known(cells))
     }
 
     /// The cells of a term with all bindings, over the variables of the heap.
