@@ -1,5 +1,4 @@
-ghost use Rattle.std.specs.Prelude.{◌≡◌, ◌<◌, ◌≤◌, ◌∷◌, [], length, IfOk};
-ghost use Rattle.std.specs.Str.{IsUtf8};
+ghost use Rattle.std.specs.Prelude.{◌≡◌, ◌<◌, ◌∷◌, [], length, IfOk};
 ghost use Rattle.cp_term.specs.Substitution.{apply};
 ghost use Rattle.cp_heap.specs.State.{term, substitution, Extends};
 ghost use Rattle.cp_goal.specs.Errors.{word, with_one, with_two};
@@ -7,6 +6,16 @@ ghost use Rattle.cp_goal.specs.Errors.{word, with_one, with_two};
 use cp_heap::{Heap, Ref, Refs};
 use cp_term::Name;
 use std::alloc::{AllocError, Global};
+
+/// The name with these bytes, which are a name.
+fn name_of(alloc: Global, text: &[u8]) -> Result<Name, AllocError>
+    ensures { IfOk result (λ name. name ≡ text.now) }
+{
+    match Name::of(alloc, text) {
+        Ok(name) => Ok(name),
+        Err(_) => Err(AllocError),
+    }
+}
 
 fn one(alloc: Global, only: Ref) -> Result<Refs, AllocError>
     ensures { IfOk result (λ refs. refs ≡ only ∷ []) }
@@ -27,8 +36,6 @@ fn two(alloc: Global, first: Ref, second: Ref) -> Result<Refs, AllocError>
 
 /// Makes the atom with this name.
 pub fn atom(alloc: Global, heap: &mut Heap, name: &[u8]) -> Result<Ref, AllocError>
-    requires utf8 { IsUtf8 name.now }
-    requires len { length name.now ≤ 1024 }
     ensures live { IfOk result (λ r. r.at < length heap.new.terms) }
     ensures term { IfOk result (λ r. term heap.new r.at ≡ word name.now) }
     ensures bindings { substitution heap.new ≡ substitution heap.old }
@@ -36,7 +43,7 @@ pub fn atom(alloc: Global, heap: &mut Heap, name: &[u8]) -> Result<Ref, AllocErr
     ensures variables { heap.new.variables ≡ heap.old.variables }
     ensures trail { heap.new.trail ≡ heap.old.trail }
 {
-    let name = Name::known(alloc, name)?;
+    let name = name_of(alloc, name)?;
     heap.atom(&name)
 }
 
@@ -47,9 +54,7 @@ pub fn with_one(
     name: &[u8],
     argument: Ref,
 ) -> Result<Ref, AllocError>
-    requires utf8 { IsUtf8 name.now }
-    requires len { length name.now ≤ 1024 }
-    requires argument { argument.at < length heap.old.terms }
+    requires { argument.at < length heap.old.terms }
     ensures live { IfOk result (λ r. r.at < length heap.new.terms) }
     ensures term { IfOk result (λ r. term heap.new r.at ≡ with_one name.now (term heap.old argument.at)) }
     ensures bindings { substitution heap.new ≡ substitution heap.old }
@@ -57,7 +62,7 @@ pub fn with_one(
     ensures variables { heap.new.variables ≡ heap.old.variables }
     ensures trail { heap.new.trail ≡ heap.old.trail }
 {
-    let name = Name::known(alloc, name)?;
+    let name = name_of(alloc, name)?;
     let arguments = one(alloc, argument)?;
     heap.compound(&name, &arguments)
 }
@@ -70,8 +75,6 @@ pub fn with_two(
     first: Ref,
     second: Ref,
 ) -> Result<Ref, AllocError>
-    requires utf8 { IsUtf8 name.now }
-    requires len { length name.now ≤ 1024 }
     requires first { first.at < length heap.old.terms }
     requires second { second.at < length heap.old.terms }
     ensures live { IfOk result (λ r. r.at < length heap.new.terms) }
@@ -81,7 +84,7 @@ pub fn with_two(
     ensures variables { heap.new.variables ≡ heap.old.variables }
     ensures trail { heap.new.trail ≡ heap.old.trail }
 {
-    let name = Name::known(alloc, name)?;
+    let name = name_of(alloc, name)?;
     let arguments = two(alloc, first, second)?;
     heap.compound(&name, &arguments)
 }

@@ -8,12 +8,12 @@ ghost use Rattle.cp_goal.specs.Builtins as rows;
 ghost use Rattle.cp_goal.specs.Builtins.{by};
 ghost use Rattle.cp_builtin.specs.Ends.{HasEnded};
 
-use cp_term::Name;
 use crate::ended::Ended;
 use crate::errors::{domain_error, type_error};
 use crate::unified::unified_atom;
 use cp_goal::Relation;
 use cp_heap::{Heap, Look, Ref};
+use cp_term::Name;
 use cp_unify::compare;
 use std::alloc::{AllocError, Global};
 use std::cmp::Ordering;

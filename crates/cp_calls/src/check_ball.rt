@@ -1,4 +1,5 @@
-ghost use Rattle.std.specs.Prelude.{◌≡◌, ℕ, ◌<◌, [], ◌∷◌, ◌++◌, length, codes, IfOk, OnOk};
+ghost use Rattle.std.specs.Prelude.{◌≡◌, ℕ, ◌<◌, ◌≤◌, [], ◌∷◌, ◌++◌, length, codes, IfOk, OnOk};
+ghost use Rattle.std.specs.Str.{IsUtf8};
 ghost use Rattle.cp_term.specs.declared.cell.Cell.TheVariants.{Atom as AtomCell, Func as FuncCell};
 ghost use Rattle.cp_code.specs.Code.{Code};
 ghost use Rattle.cp_code.specs.Requests.{full_name};
@@ -20,6 +21,8 @@ pub(crate) fn throw_check(
     number: u32,
     rest: u32,
 ) -> Result<(), AllocError>
+    requires utf8 { IsUtf8 what.now }
+    requires len { length what.now ≤ 1024 }
     requires holds { Holds run.old }
     requires rest { rest < length run.old.goals }
     ensures moved { OnOk result ((code : Code) (level : ℕ) → shown code run.new ≡ moved code run.old rest level (throw_row (check_ball what.now pred.now number))) }
@@ -31,6 +34,8 @@ pub(crate) fn throw_check(
 }
 
 fn check_ball(alloc: Global, what: &[u8], pred: &PredName, number: u32) -> Result<Term, AllocError>
+    requires utf8 { IsUtf8 what.now }
+    requires len { length what.now ≤ 1024 }
     ensures { IfOk result (λ ball. ball ≡ check_ball what.now pred.now number) }
 {
     let mut cells = Cells::new(alloc);
@@ -41,6 +46,8 @@ fn check_ball(alloc: Global, what: &[u8], pred: &PredName, number: u32) -> Resul
 }
 
 fn push_what(alloc: Global, cells: &mut Cells, what: &[u8]) -> Result<(), AllocError>
+    requires utf8 { IsUtf8 what.now }
+    requires len { length what.now ≤ 1024 }
     ensures { OnOk result (cells.new ≡ cells.old ++ FuncCell (codes "rtcheck") 3 ∷ AtomCell what.now ∷ []) }
 {
     let check = Name::known(alloc, b"rtcheck")?;

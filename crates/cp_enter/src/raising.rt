@@ -1,4 +1,5 @@
-ghost use Rattle.std.specs.Prelude.{◌≡◌, ℕ, ◌<◌, length, codes, IfOk, OnOk};
+ghost use Rattle.std.specs.Prelude.{◌≡◌, ℕ, ◌<◌, ◌≤◌, length, codes, IfOk, OnOk};
+ghost use Rattle.std.specs.Str.{IsUtf8};
 ghost use Rattle.cp_goal.specs.Errors.{instantiation_error, type_error};
 ghost use Rattle.cp_goal.specs.Builtins as builtins;
 ghost use Rattle.cp_code.specs.Code.{Code};

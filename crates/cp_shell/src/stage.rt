@@ -1,4 +1,5 @@
-ghost use Rattle.std.specs.Prelude.{◌≡◌, IfOk, OnOk, [], ◌∷◌, ◌++◌, codes};
+ghost use Rattle.std.specs.Prelude.{◌≡◌, ◌≤◌, IfOk, OnOk, [], ◌∷◌, ◌++◌, codes, length};
+ghost use Rattle.std.specs.Str.{IsUtf8};
 ghost use Rattle.cp_term.specs.declared.cell.Cell.TheVariants.{Var, Atom, Func};
 ghost use Rattle.cp_call.specs.Life.{how_term, ended_fact};
 ghost use Rattle.cp_shell.specs.Stage.{stage_with};

@@ -3,10 +3,10 @@ ghost use Rattle.std.specs.Str.{IsUtf8};
 ghost use Rattle.cp_code.specs.Requests.{full_name};
 ghost use Rattle.cp_top.specs.Ending.{name_text};
 
-use crate::term_text::{standard_text, term_with};
+use crate::term_text::standard_text;
 use cp_call::ObjectName;
 use cp_io::{Bytes, bytes_of};
-use cp_term::{Cell, Cells, Name, NameError, PredName, Term};
+use cp_term::{Cell, Cells, Name, PredName, Term};
 use std::alloc::{AllocError, Global};
 
 /// The term `M:N/A` of a predicate.

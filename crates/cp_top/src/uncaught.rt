@@ -4,7 +4,7 @@ ghost use Rattle.cp_term.specs.Numbering.{is_numbered_from};
 ghost use Rattle.cp_top.specs.Ending.{uncaught, shown};
 
 use crate::run_end::RunEnd;
-use crate::term_text::{standard_text, term_with};
+use crate::term_text::standard_text;
 use cp_term::{Cell, Cells};
 use std::alloc::{AllocError, Global};
 
@@ -25,7 +25,7 @@ pub(crate) fn end_uncaught(alloc: Global, ball: &[Cell]) -> Result<RunEnd, Alloc
     ensures { IfOk result (λ e. shown e ≡ uncaught ball.now) }
 {
     let cells = copied(alloc, ball)?;
-    let ball = term_with(cells);
+    let ball = Term::known(cells);
     let text = standard_text(alloc, &ball)?;
     let mut line = Vec::from_slice(alloc, b"{UNCAUGHT: ")?;
     line.extend_from_slice(text.as_slice())?;
