@@ -58,7 +58,10 @@ fn inner(alloc: Global, goal: &Term) -> Result<Term, AllocError>
     ensures { IfOk result (λ t. t ≡ unqualified goal.now (arguments goal.now)) }
 {
     let cells = copied(alloc, &goal.cells()[2..])?;
-    Ok(Term::known(cells))
+    let Ok(inner) = Term::from_cells(cells) else {
+        return Err(AllocError);
+    };
+    Ok(inner)
 }
 
 /// Whether the cells are those of a goal with an atom as its module.

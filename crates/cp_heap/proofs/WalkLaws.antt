@@ -128,11 +128,8 @@ pub all_out : (s : State) (cells : List Cell) (seen stack : List ℕ) (t : List 
 all_out s cells seen stack t e empty = sym (append-nil cells) ∙ ap (λ ats. cells ++ canon_from seen (waiting s ats)) (sym empty) ∙ e
 
 -- the cells are a term
-pub is_term_of : (cells t : List Cell) → cells ≡ canon t → is_terms 1 cells ≡ true → term_of cells ≡ Ok cells
-is_term_of cells t e one =
-    let numbered : is_numbered_from 0 cells ≡ true = subst (λ cs. is_numbered_from 0 cs ≡ true) (sym e) (canon-IsNumbered t) in
-    ap (λ b. cond b (cond (is_numbered_from 0 cells) (Ok cells) (Err (BadNumbering cells))) (Err (NotOneTerm cells))) one
-    ∙ ap (λ b. cond b (Ok cells) (Err (BadNumbering cells))) numbered
+pub is_numbered : (cells t : List Cell) → cells ≡ canon t → is_numbered_from 0 cells ≡ true
+is_numbered cells t e = subst (λ cs. is_numbered_from 0 cs ≡ true) (sym e) (canon-IsNumbered t)
 
 pub as_long : (cells t : List Cell) → cells ≡ canon t → length cells ≡ length t
 as_long cells t e = ap length e ∙ length-canon_from [] t

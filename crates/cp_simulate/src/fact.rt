@@ -39,7 +39,10 @@ fn head_of_rule(alloc: Global, cells: &[Cell]) -> Result<Term, AllocError>
     ensures { IfOk result (λ head. head ≡ head_of cells.now) }
 {
     let head = first_term(alloc, &cells[1..])?;
-    Ok(Term::known(head))
+    match Term::from_cells(head) {
+        Ok(head) => Ok(head),
+        Err(_) => unreachable!(),
+    }
 }
 
 /// The first of the terms that cells are, by itself.

@@ -19,5 +19,8 @@ pub(crate) fn main_goal(alloc: Global, module_name: &Name) -> Result<Term, Alloc
     ensures { IfOk result (λ goal. goal ≡ main_of module_name.now) }
 {
     let cells = main_cells(alloc, module_name)?;
-    Ok(Term::known(cells))
+    match Term::from_cells(cells) {
+        Ok(goal) => Ok(goal),
+        Err(_) => unreachable!(),
+    }
 }

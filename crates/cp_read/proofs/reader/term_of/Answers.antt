@@ -13,17 +13,17 @@ use Rattle.cp_read.proofs.reader.term_of.Goals as goal
 is_within : (bounds : Bounds) (o : Option (List Cell)) (list cells : List Cell) → o ≡ Some list → IsWithin bounds o cells → (list ≡ cells) × (fits bounds cells ≡ true)
 is_within bounds o list cells is h = subst (λ (x : Option (List Cell)). IsWithin bounds x cells) is h
 
-pub term_with-requires-clause-term : goal.term_with-requires-clause-term
-term_with-requires-clause-term c =
+pub known-requires-clause-term : goal.known-requires-clause-term
+known-requires-clause-term c =
     let w = is_within c.args.bounds _ c.in-Some.cells (cells_of c.args.draft) c.in-Some.is c.in_ok-into_cells.ensures in
     ap (is_terms 1) (w.0) ∙ (c.requires (w.1)).0
 
-pub term_with-requires-clause-numbered : goal.term_with-requires-clause-numbered
-term_with-requires-clause-numbered c =
+pub known-requires-clause-numbered : goal.known-requires-clause-numbered
+known-requires-clause-numbered c =
     let w = is_within c.args.bounds _ c.in-Some.cells (cells_of c.args.draft) c.in-Some.is c.in_ok-into_cells.ensures in
     ap (is_numbered_from 0) (w.0) ∙ (c.requires (w.1)).1
 
 pub returns-in-Some : goal.returns-in-Some
 returns-in-Some c =
     let w = is_within c.args.bounds _ c.in-Some.cells (cells_of c.args.draft) c.in-Some.is c.in_ok-into_cells.ensures in
-    (c.term_with.ensures ∙ w.0, w.1)
+    (c.known.ensures ∙ w.0, w.1)
