@@ -1,4 +1,4 @@
-ghost use Rattle.std.specs.Prelude.{◌≡◌, ◌<◌, ◌++◌, [], ◌∷◌, true, IfSome, IfOk, OnOk, OnErr, length, slice_get};
+ghost use Rattle.std.specs.Prelude.{◌≡◌, ◌<◌, ◌++◌, [], ◌∷◌, true, IfSome, IfOk, OnOk, OnErr, length, slice_get, map};
 ghost use Rattle.cp_call.specs.Object.{step, is_parked};
 ghost use Rattle.cp_call.specs.History.{Legal};
 ghost use Rattle.cp_call.specs.Store.{state_of, is_still_parked, limit_of};
@@ -123,6 +123,23 @@ impl PlainHall {
             ends.push(end_of(row)?)?;
         }
         Ok(ends)
+    }
+
+    /// The objects, each with its name, by number.
+    pub fn into_rows(self) -> (Global, Vec<HallRow>)
+        ensures rows { map hall_object result.1.items ≡ self }
+        ensures legal { AreLegal self }
+    {
+        let PlainHall { alloc, rows } = self;
+        (alloc, rows)
+    }
+
+    /// The hall of these objects, by number.
+    pub fn from_rows(alloc: Global, rows: Vec<HallRow>) -> PlainHall
+        requires { AreLegal (map hall_object rows.items) }
+        ensures { result ≡ map hall_object rows.items }
+    {
+        PlainHall { alloc, rows }
     }
 
     /// Lets the objects go, which could have ended at this moment. It takes no memory.
