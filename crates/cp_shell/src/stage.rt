@@ -17,6 +17,16 @@ pub enum Stage {
     Ends { number: i64, end: Term },
 }
 
+/// The term of these cells, which are one.
+fn term_of(cells: Cells) -> Result<Term, AllocError>
+    ensures { IfOk result (λ term. term ≡ cells) }
+{
+    match Term::from_cells(cells) {
+        Ok(term) => Ok(term),
+        Err(_) => Err(AllocError),
+    }
+}
+
 /// An atom as a term.
 pub(crate) fn atom(alloc: Global, text: &[u8]) -> Result<Term, AllocError>
     requires utf8 { IsUtf8 text.now }
@@ -25,7 +35,7 @@ pub(crate) fn atom(alloc: Global, text: &[u8]) -> Result<Term, AllocError>
 {
     let mut cells = Cells::new(alloc);
     cells.push(Cell::Atom(Name::known(alloc, text)?))?;
-    Ok(Term::known(cells))
+    term_of(cells)
 }
 
 fn push_all(cells: &mut Cells, term: &Term) -> Result<(), AllocError>
@@ -44,7 +54,7 @@ fn ball_term(alloc: Global, ball: &Term) -> Result<Term, AllocError>
     let mut cells = Cells::new(alloc);
     cells.push(Cell::Func(Name::known(alloc, b"ball")?, 1))?;
     push_all(&mut cells, ball)?;
-    Ok(Term::known(cells))
+    term_of(cells)
 }
 
 /// `ended(Number, End)`.
@@ -55,7 +65,7 @@ pub(crate) fn ended_term(alloc: Global, number: i64, end: &Term) -> Result<Term,
     cells.push(Cell::Func(Name::known(alloc, b"ended")?, 2))?;
     cells.push(Cell::Int(number))?;
     push_all(&mut cells, end)?;
-    Ok(Term::known(cells))
+    term_of(cells)
 }
 
 /// How a goal ended, as a term.
@@ -103,5 +113,5 @@ pub(crate) fn any_term(alloc: Global) -> Result<Term, AllocError>
 {
     let mut cells = Cells::new(alloc);
     cells.push(Cell::Var(0))?;
-    Ok(Term::known(cells))
+    term_of(cells)
 }

@@ -5,7 +5,7 @@ ghost use Rattle.cp_top.specs.Ending.{uncaught, shown};
 
 use crate::run_end::RunEnd;
 use crate::term_text::standard_text;
-use cp_term::{Cell, Cells};
+use cp_term::{Cell, Cells, Term};
 use std::alloc::{AllocError, Global};
 
 fn copied(alloc: Global, cells: &[Cell]) -> Result<Cells, AllocError>
