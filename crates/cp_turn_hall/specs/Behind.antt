@@ -23,12 +23,19 @@ pub record SeatView : Type 0 where
 abbrev pub hall_at_start : List (TurnstileView HallRow) → List HallObject
 hall_at_start turnstiles = map (λ (t : TurnstileView HallRow). hall_object t.base) turnstiles
 
--- a pass of each turnstile, in their order, all outside and with this number
+-- A caller's pass of a turnstile: it is outside and has the caller's number, and what it tells as the caller's own entries
+-- are the caller's in the list that it has seen.
+pub record IsPlaceOf (n : ℕ) (t : TurnstileView HallRow) (x : ObjectPass) : Type 0 where
+  pub outside : IsOutside t x.pass
+  pub number : x.pass.number ≡ n
+  pub mine : x.pass.mine ≡ own_entries n x.pass.seen
+
+-- a pass of each turnstile, in their order, all of the caller with this number
 abbrev pub Serves : ℕ → List (TurnstileView HallRow) → List ObjectPass → Type 0
 Serves n [] [] = Unit {0}
 Serves n [] (p ∷ ps) = ⊥
 Serves n (t ∷ ts) [] = ⊥
-Serves n (t ∷ ts) (p ∷ ps) = IsOutside t p.pass × (p.pass.number ≡ n) × Serves n ts ps
+Serves n (t ∷ ts) (p ∷ ps) = IsPlaceOf n t p × Serves n ts ps
 
 -- these are a caller's passes of the objects behind these turnstiles, and the caller is inside of none
 abbrev pub IsPassOf : List (TurnstileView HallRow) → HallPassView → Type 0

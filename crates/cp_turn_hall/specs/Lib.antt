@@ -1,3 +1,4 @@
 pub mod Behind
+pub mod Closing
 pub mod Grown
 pub mod Turn

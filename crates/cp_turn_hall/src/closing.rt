@@ -1,22 +1,26 @@
 // A hall is closed: the passes of each object are taken back, and the object comes out from behind its turnstile.
-ghost use Rattle.std.specs.Prelude.{◌≡◌, ◌≢◌, ℕ, ◌+◌, ◌<◌, List, [], ◌∷◌, ◌++◌, All, length, slice_index_or, IfOk, OnOk, MatchOption};
+ghost use Rattle.std.specs.Prelude.{◌≡◌, ◌≢◌, ℕ, ◌<◌, List, [], ◌∷◌, ◌++◌, ◌^◌, map, All, length, slice_index_or, IfOk, OnOk};
+ghost use Rattle.cp_call.specs.declared.call.Entry.{Entry};
 ghost use Rattle.cp_call.specs.Sound.{own_entries};
 ghost use Rattle.cp_list.specs.Lists.{IsPrefix};
+ghost use Rattle.cp_turn.specs.Passes.{PassView, TurnstileView};
+ghost use Rattle.cp_hall.specs.declared.hall.HallRow.{HallRow};
 ghost use Rattle.cp_hall.specs.Hall.{objects_of, history_at};
 ghost use Rattle.cp_turn_hall.specs.Behind.{HallPassView, hall_at_start, IsPassOf, IsSeenIn};
+ghost use Rattle.cp_turn_hall.specs.Closing.{last_pass, without_last, IsTakenOut};
 
 use crate::grown::GrownRow;
 use crate::hall::TurnHall;
 use crate::pass::{HallPass, HallPasses, ObjectPass};
-use cp_hall::PlainHall;
-use cp_turn::{Pass, Passes};
+use cp_hall::{HallRow, PlainHall};
+use cp_turn::{Pass, Passes, Turnstile};
 use std::alloc::{AllocError, Global};
 
 // The last pass of a caller.
 fn take_last(hall_pass: &mut HallPass) -> Pass<GrownRow>
     requires { 0 < length hall_pass.old.places }
-    ensures number { hall_pass.new.number ≡ hall_pass.old.number }
-    ensures taken { (looked : ℕ) × (hall_pass.old.places ≡ hall_pass.new.places ++ record { pass = result; looked = looked } ∷ []) }
+    ensures pass { (none : PassView Entry HallRow) → result ≡ last_pass none hall_pass.old }
+    ensures rest { hall_pass.new ≡ without_last hall_pass.old }
 {
     match hall_pass.places.pop() {
         Some(place) => {
@@ -32,15 +36,32 @@ fn collect(
     alloc: Global,
     hall_passes: &mut Vec<HallPass>,
 ) -> Result<Vec<Pass<GrownRow>>, AllocError>
-    requires { (k : ℕ) (d : HallPassView) → k < length hall_passes.old.items → 0 < length (slice_index_or hall_passes.old.items k d).places }
-    ensures long { IfOk result (λ v. (length v.items ≡ length hall_passes.old.items) × (length hall_passes.new.items ≡ length hall_passes.old.items)) }
-    ensures each { IfOk result (λ v. (k : ℕ) (d : HallPassView) (e : _) → k < length hall_passes.old.items → ((slice_index_or hall_passes.new.items k d).number ≡ (slice_index_or hall_passes.old.items k d).number) × ((looked : ℕ) × ((slice_index_or hall_passes.old.items k d).places ≡ (slice_index_or hall_passes.new.items k d).places ++ record { pass = slice_index_or v.items k e; looked = looked } ∷ []))) }
+    requires { All (λ d. 0 < length d.places) hall_passes.old.items }
+    ensures long { IfOk result (λ v. length v.items ≡ length hall_passes.old.items) }
+    ensures each { IfOk result (λ v. (k : ℕ) (d : HallPassView) (none : PassView Entry HallRow) → k < length hall_passes.old.items → slice_index_or v.items k none ≡ last_pass none (slice_index_or hall_passes.old.items k d)) }
+    ensures rest { OnOk result (hall_passes.new.items ≡ map without_last hall_passes.old.items) }
 {
     let mut out = Vec::with_capacity(alloc, hall_passes.len())?;
     for i in 0..hall_passes.len() {
         out.push_reserved(take_last(&mut hall_passes[i]));
     }
     Ok(out)
+}
+
+// Takes an object out from behind its turnstile, which is the one of the callers' last passes.
+fn take_out(
+    alloc: Global,
+    turnstile: Turnstile<GrownRow>,
+    hall_passes: &mut Vec<HallPass>,
+) -> Result<HallRow, AllocError>
+    requires last { (before : List (TurnstileView HallRow)) × All (IsPassOf (before ++ turnstile ∷ [])) hall_passes.old.items }
+    requires all { turnstile.callers ≡ length hall_passes.old.items }
+    requires few { length hall_passes.old.items < 2 ^ 32 }
+    ensures row { IfOk result (λ row. IsTakenOut turnstile row hall_passes.old.items) }
+    ensures rest { OnOk result (hall_passes.new.items ≡ map without_last hall_passes.old.items) }
+{
+    let passes = collect(alloc, hall_passes)?;
+    Ok(turnstile.close(Passes::from_vec(passes)).into_row())
 }
 
 impl TurnHall {
@@ -60,12 +81,11 @@ impl TurnHall {
             mut turnstiles,
         } = self;
         let mut hall_passes = passes.into_vec();
-        let mut out = Vec::with_capacity(alloc, turnstiles.len())?;
+        let mut rows = Vec::with_capacity(alloc, turnstiles.len())?;
         while let Some(turnstile) = turnstiles.pop() {
-            let passes = collect(alloc, &mut hall_passes)?;
-            out.push(turnstile.close(Passes::from_vec(passes)).into_row())?;
+            rows.push(take_out(alloc, turnstile, &mut hall_passes)?)?;
         }
-        out.reverse();
-        Ok(PlainHall::from_rows(alloc, out))
+        rows.reverse();
+        Ok(PlainHall::from_rows(alloc, rows))
     }
 }

@@ -1,7 +1,7 @@
 // One turn at one object.
 ghost use Rattle.std.specs.Prelude.{◌≡◌, ◌^◌, ◌-◌};
 ghost use Rattle.cp_call.specs.Asker.{looked_after};
-ghost use Rattle.cp_turn.specs.Passes.{IsOutside};
+ghost use Rattle.cp_turn_hall.specs.Behind.{IsPlaceOf};
 ghost use Rattle.cp_turn_hall.specs.Turn.{IsPlaceTurn};
 
 use crate::grown::GrownRow;
@@ -31,8 +31,8 @@ pub(crate) fn take_turn<R: Wait, G: Gate>(
     object: u32,
     call: &Call,
 ) -> Asked
-    requires { IsOutside turnstile.now place.old.pass }
-    ensures outside { IsOutside turnstile.now place.new.pass }
+    requires { IsPlaceOf place.old.pass.number turnstile.now place.old }
+    ensures place { IsPlaceOf place.old.pass.number turnstile.now place.new }
     ensures turn { IsPlaceTurn turnstile.now.base call.now result place.old place.new }
 {
     let caller = place.pass.number();
