@@ -8,7 +8,7 @@ use Rattle.cp_hall.specs.Hall.{HallObject, hall_object}
 use Rattle.cp_turn_hall.specs.Behind.{hall_at_start}
 use Rattle.cp_turn_hall.proofs.HandingOut.{start_push, legal_rest, new_are_of, new_have_seen}
 use Rattle.cp_turn_hall.proofs.opening.turn_hall.Goals as goal
-use Rattle.cp_turn_hall.proofs.opening.turn_hall.Goals.{After-drop-row-iterator-2}
+use Rattle.cp_turn_hall.proofs.opening.turn_hall.Goals.{After-from_vec}
 
 pub loop-row-preserved : goal.loop-row-preserved
 loop-row-preserved c =
@@ -24,7 +24,7 @@ loop-row-preserved c =
       new = c.in_ok-add_object.ensures.passes.1;
     }
 
-whole : (c : After-drop-row-iterator-2) → hall_at_start c.loop-row.turnstiles.items ≡ c.args.hall
+whole : (c : After-from_vec) → hall_at_start c.loop-row.turnstiles.items ≡ c.args.hall
 whole c =
     let none : c.loop-row.row-iterator.rest.items ≡ [] = nil_from_length c.loop-row.row-iterator.rest.items (sym c.loop-row.row-iterator.rest.ok.0 ∙ c.in-None.ensures.steps.0) in
     sym (append-nil (hall_at_start c.loop-row.turnstiles.items))
