@@ -2,7 +2,7 @@
 use Rattle.std.proofs.Common.{◌≡◌, ◌≢◌, ℕ, zero, suc, ◌+◌, ◌-◌, ◌<◌, ◌≤◌, List, [], ◌∷◌, ◌++◌, append_assoc, append-nil, length, length-append, take, refl, sym, ◌∙◌, ap, subst, None, inl, inr, arith}
 use Rattle.std.proofs.lemmas.Bool.Decides.{eqb_tells}
 use Rattle.std.specs.Prelude.{map, All, slice_index_or}
-use Rattle.std.proofs.lemmas.List.{take_at, take-take, length_push, length-take-le, take_all, get_or-map, length-map, get_or_push, get_or_default, get_or_append_left}
+use Rattle.std.proofs.lemmas.List.{take_at, take-take, length_push, length-take-le, take_all, get_or-map, length-map, nil_from_length, get_or_push, get_or_default, get_or_append_left}
 use Rattle.std.proofs.lemmas.List.Elements.{All-map, All-head, All-tail}
 use Rattle.cp_call.specs.declared.call.Entry.{Entry}
 use Rattle.cp_call.specs.Sound.{Object, own_entries}
@@ -188,6 +188,16 @@ starts all ds h = ([], sym (append-nil all), tt, all_places all ds h)
 front_is : (front ts back : Turnstiles) (t : TurnstileView HallRow) → front ≡ ts ++ t ∷ [] → front ++ back ≡ ts ++ (t ∷ back)
 front_is front ts back t e = ap (λ (l : Turnstiles). l ++ back) e ∙ append_assoc ts (t ∷ []) back
 
+all_mid : (P : TurnstileView HallRow → Type 0) (ts : Turnstiles) (t : TurnstileView HallRow) (us : Turnstiles) → All P (ts ++ (t ∷ us)) → P t
+all_mid P [] t us h = All-head P t us h
+all_mid P (x ∷ ts) t us h = all_mid P ts t us (All-tail P x (ts ++ (t ∷ us)) h)
+
+pub finished : (all : Turnstiles) (ds : List HallPassView) (front : Turnstiles) (rows : List HallRow) (now : List HallPassView) → IsMidway all ds front rows now → length front ≡ 0 → AreOut 0 all rows ds
+finished all ds front rows now i e =
+    let none : front ≡ [] = nil_from_length front e in
+    let whole : all ≡ i.0 = i.1 ∙ ap (λ (l : Turnstiles). l ++ i.0) none in
+    subst (λ (l : Turnstiles). AreOut 0 l rows ds) (sym whole) (subst (λ (q : ℕ). AreOut q i.0 rows ds) e i.2)
+
 module _ (all : Turnstiles) (ds : List HallPassView) (front : Turnstiles) (rows : List HallRow) (now : List HallPassView) (h : All (IsPassOf all) ds) (i : IsMidway all ds front rows now)
     (ts : Turnstiles) (t : TurnstileView HallRow) (pop : front ≡ ts ++ t ∷ []) where
   whole : all ≡ ts ++ (t ∷ i.0)
@@ -202,7 +212,12 @@ module _ (all : Turnstiles) (ds : List HallPassView) (front : Turnstiles) (rows 
   now_is : now ≡ map (first_places (length ts + 1)) ds
   now_is = i.3 ∙ ap (λ (q : ℕ). map (first_places q) ds) one_more
 
-  -- the passes are still of the last turnstile
+  -- each caller has still a pass of the last turnstile, which is one of all callers
+  pub callers_are : All (λ t. t.callers ≡ length ds) all → t.callers ≡ length now
+  callers_are each =
+      all_mid (λ (t : TurnstileView HallRow). t.callers ≡ length ds) ts t i.0 (subst (All (λ (t : TurnstileView HallRow). t.callers ≡ length ds)) whole each)
+      ∙ sym (ap length i.3 ∙ length-map ds (first_places (length front)))
+
   pub are_of : All (IsPassOf (ts ++ t ∷ [])) now
   are_of = subst (λ (l : Turnstiles). All (IsPassOf l) now) pop
       (subst (All (IsPassOf front)) (sym i.3) (all_first front i.0 ds (subst (λ (l : Turnstiles). All (IsPassOf l) ds) i.1 h)))
