@@ -36,8 +36,10 @@ turn_mine p c a s t turn =
     ∙ ap (λ (l : List Entry). own_entries s.number (seen_at s.turnstiles s.places p) ++ l) (own_of s.number (entry_added s.number c a) (added_by s.number c a))
 
 turn_seen : (p : ℕ) (c : Call) (a : Asked) (s t : SeatView) → IsTurn p c a s t → IsPrefix (seen_at s.turnstiles s.places p) (seen_at t.turnstiles t.places p)
-turn_seen p c a s t turn = (turn.begins.0 ++ entry_added s.number c a,
-    turn.seen ∙ ap (λ (l : List Entry). l ++ entry_added s.number c a) turn.begins.1 ∙ append_assoc (seen_at s.turnstiles s.places p) turn.begins.0 (entry_added s.number c a))
+turn_seen p c a s t turn = (
+  turn.begins.0 ++ entry_added s.number c a,
+  turn.seen ∙ ap (λ (l : List Entry). l ++ entry_added s.number c a) turn.begins.1 ∙ append_assoc (seen_at s.turnstiles s.places p) turn.begins.0 (entry_added s.number c a),
+)
 
 same_seen : (q : ℕ) (s t : SeatView) → t.turnstiles ≡ s.turnstiles → SamePlace q s.places t.places → seen_at t.turnstiles t.places q ≡ seen_at s.turnstiles s.places q
 same_seen q s t e same = ap (λ (ts : List (TurnstileView HallRow)). history_at (hall_at_start ts) q ++ at_place (λ x. x.pass.seen) [] t.places q) e

@@ -6,3 +6,4 @@ pub mod Asking
 pub mod HandingOut
 pub mod Half
 pub mod TakingOut
+pub mod Crossing

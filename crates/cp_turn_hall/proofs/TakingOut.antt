@@ -144,7 +144,7 @@ without_is : (q : ℕ) (d : HallPassView) → q < length d.places → without_la
 without_is q d h =
     let e : length (take (q + 1) d.places) - 1 ≡ q = omega (arith, length-take-le (q + 1) d.places (omega arith)) in
     ap (λ (ps : List ObjectPass). record { number = d.number; places = ps })
-        (ap (λ (k : ℕ). take k (take (q + 1) d.places)) e ∙ take-take q (q + 1) d.places (omega arith))
+    (ap (λ (k : ℕ). take k (take (q + 1) d.places)) e ∙ take-take q (q + 1) d.places (omega arith))
 
 without_are : (ts : Turnstiles) (t : TurnstileView HallRow) (us : Turnstiles) (ds : List HallPassView) → All (IsPassOf (ts ++ (t ∷ us))) ds
     → map without_last (map (first_places (length ts + 1)) ds) ≡ map (first_places (length ts)) ds

@@ -47,8 +47,8 @@ turn_is ts n ps at c a t x y e f num turn =
       found = h ++ turn.found;
       begins = subst (λ (l : List Entry). IsPrefix l (h ++ turn.found)) (sym before) (prefix_behind h x.pass.seen turn.found turn.begins);
       own = own_append n h turn.found
-        ∙ ap (λ (l : List Entry). own_entries n h ++ l) (subst (λ (k : ℕ). own_entries k turn.found ≡ own_entries k x.pass.seen) num turn.own)
-        ∙ sym (own_append n h x.pass.seen) ∙ ap (own_entries n) (sym before);
+          ∙ ap (λ (l : List Entry). own_entries n h ++ l) (subst (λ (k : ℕ). own_entries k turn.found ≡ own_entries k x.pass.seen) num turn.own)
+          ∙ sym (own_append n h x.pass.seen) ∙ ap (own_entries n) (sym before);
       answer = rw (first_object ts at t e) (subst (λ (k : ℕ). IsAnswered k c a (record { object = (hall_object t.base).object; history = h ++ turn.found })) num turn.answer);
       seen = after ∙ ap (λ (l : List Entry). h ++ l) turn.seen ∙ sym (append_assoc h turn.found (entry_added x.pass.number c a)) ∙ ap (λ (k : ℕ). (h ++ turn.found) ++ entry_added k c a) num;
       legal = rw (first_object ts at t e) (subst (λ (l : List Entry). Legal t.base.pred.kind t.base.pred.opening l) (sym after) turn.legal);

@@ -13,5 +13,5 @@ returns-clause-passes c =
     let many : length c.args.hall_passes.now.items ≡ length ps = c.requires.passes.0 ∙ sym c.in-Ok.ensures.made.0 ∙ sym fresh.0 in (
       c.in_ok-hand_out.ensures.long ∙ c.requires.passes.0,
       subst (λ (l : List (TurnstileView HallRow)). AreNew l c.hand_out.new.hall_passes.items) (sym c.in_ok-push.ensures.items)
-        (new_push c.args.turnstiles.now.items c.in-Ok.turnstile c.args.hall_passes.now.items c.hand_out.new.hall_passes.items ps c.requires.passes.1 fresh many c.in_ok-hand_out.ensures.long c.in_ok-hand_out.ensures.each),
+          (new_push c.args.turnstiles.now.items c.in-Ok.turnstile c.args.hall_passes.now.items c.hand_out.new.hall_passes.items ps c.requires.passes.1 fresh many c.in_ok-hand_out.ensures.long c.in_ok-hand_out.ensures.each),
     )

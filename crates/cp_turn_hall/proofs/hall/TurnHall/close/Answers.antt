@@ -19,10 +19,10 @@ loop-turnstile-init c =
 
 pub take_out-requires-clause-last : goal.take_out-requires-clause-last
 take_out-requires-clause-last c = (
-    c.pop.new.self.items,
-    are_of c.args.self c.args.passes c.loop-turnstile.turnstiles.items (reverse c.loop-turnstile.rows.items) c.loop-turnstile.hall_passes.items c.requires.of_hall c.loop-turnstile.invariant
+  c.pop.new.self.items,
+  are_of c.args.self c.args.passes c.loop-turnstile.turnstiles.items (reverse c.loop-turnstile.rows.items) c.loop-turnstile.hall_passes.items c.requires.of_hall c.loop-turnstile.invariant
       c.pop.new.self.items c.in-Some.turnstile c.in-Some.ensures.items,
-  )
+)
 
 pub take_out-requires-clause-all : goal.take_out-requires-clause-all
 take_out-requires-clause-all c =

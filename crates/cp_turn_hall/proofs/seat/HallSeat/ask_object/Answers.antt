@@ -25,8 +25,8 @@ told : (g : Over) (c : goal.After-self-1 g)
     → HasAsked c.args.object c.args.call.now c.take_turn.result c.self.inside.hall.now c.self.inside.number (slice_set c.self.inside.places.items c.args.object c.take_turn.new.place) c.args.self.now
 told g c =
     let f : slice_get c.self.inside.places.items c.args.object ≡ Some c.index_mut-place.result.now =
-      slice_get_read c.self.inside.places.items (length c.self.inside.places.items) c.args.object c.index_mut-place.result.now refl
-      (omega (arith, serves_length c.self.inside.number c.self.inside.hall.now c.self.inside.places.items c.self.invariant, ap (λ (s : SeatView). length s.turnstiles) c.self.view_is, c.requires)) c.index_mut-place.ensures.value in
+    slice_get_read c.self.inside.places.items (length c.self.inside.places.items) c.args.object c.index_mut-place.result.now refl
+    (omega (arith, serves_length c.self.inside.number c.self.inside.hall.now c.self.inside.places.items c.self.invariant, ap (λ (s : SeatView). length s.turnstiles) c.self.view_is, c.requires)) c.index_mut-place.ensures.value in
     has_asked c.self.inside.number c.self.inside.hall.now c.self.inside.places.items c.args.self.now c.args.object c.args.call.now c.take_turn.result c.turnstile-turnstile.result.now c.index_mut-place.result.now c.take_turn.new.place
     c.self.view_is c.self.invariant c.turnstile-turnstile.ensures f c.take_turn.ensures.place c.take_turn.ensures.turn
 
