@@ -1,18 +1,18 @@
 -- What a turn does to what a seat tells of each caller and each object.
-use Rattle.std.proofs.Common.{◌≡◌, ◌≢◌, ◌⊎◌, inl, inr, ℕ, ◌+◌, ◌≤◌, ◌==◌, List, [], ◌∷◌, ◌++◌, append_assoc, refl, sym, ◌∙◌, ap, subst, Some, true, false, cond, arith, append-nil}
-use Rattle.std.specs.Prelude.{◌^◌, ◌-◌, min, slice_get}
+use Rattle.std.proofs.Common.{◌≡◌, ◌≢◌, ◌⊎◌, inl, inr, ℕ, ◌==◌, List, [], ◌∷◌, ◌++◌, append_assoc, refl, sym, ◌∙◌, ap, subst, true, false, append-nil}
+use Rattle.std.specs.Prelude.{◌^◌, ◌-◌}
 use Rattle.std.proofs.lemmas.Bool.Decides.{eqb_tells}
 use Rattle.cp_call.specs.declared.call.Call.{Call}
 use Rattle.cp_call.specs.declared.call.Entry.{Entry}
 use Rattle.cp_call.specs.declared.asked.Asked.{Asked}
 use Rattle.cp_call.specs.Sound.{own_entries}
-use Rattle.cp_call.specs.Asker.{entry_added, looked_after, IsFullBy, IsStill}
+use Rattle.cp_call.specs.Asker.{entry_added, looked_after}
 use Rattle.cp_list.specs.Lists.{IsPrefix}
 use Rattle.cp_turn.specs.Passes.{TurnstileView}
 use Rattle.cp_turn.specs.Lists.{AreBy}
 use Rattle.cp_hall.specs.declared.hall.HallRow.{HallRow}
-use Rattle.cp_hall.specs.Hall.{objects_of, history_at}
-use Rattle.cp_turn_hall.specs.Behind.{SeatView, hall_at_start, at_place, seen_at, seen_for, looked_at, looked_for, turns_at}
+use Rattle.cp_hall.specs.Hall.{history_at}
+use Rattle.cp_turn_hall.specs.Behind.{SeatView, hall_at_start, at_place, seen_at, seen_for, looked_at, looked_for}
 use Rattle.cp_turn_hall.specs.Turn.{IsTurn, SamePlace}
 use Rattle.cp_turn_hall.proofs.Growing.{added_by}
 use Rattle.cp_turn_hall.proofs.Turning.{own_append}

@@ -1,7 +1,7 @@
 -- A list of callers' passes of which the first have lost their last pass, and one of which the last have got one more.
-use Rattle.std.proofs.Common.{◌≡◌, ◌≢◌, ℕ, zero, suc, ◌+◌, ◌<◌, ◌≤◌, List, [], ◌∷◌, ◌++◌, append_assoc, append-nil, length, length-append, take, drop, set, get_or, refl, sym, ◌∙◌, ap, subst, inl, inr, arith}
+use Rattle.std.proofs.Common.{◌≡◌, ℕ, ◌+◌, ◌<◌, ◌≤◌, List, [], ◌∷◌, ◌++◌, append_assoc, append-nil, length, length-append, take, drop, set, get_or, refl, sym, ◌∙◌, ap, subst, inl, inr, arith}
 use Rattle.std.specs.Prelude.{map, slice_index_or}
-use Rattle.std.proofs.lemmas.List.{drop_more, get_or_at, set_at, map_more, take_all, drop_all, length-take-le, length-drop, length-map, length_push, get_or-set_same, get_or-set_other, get_or_push, get_or_default, length-set}
+use Rattle.std.proofs.lemmas.List.{drop_more, get_or_at, set_at, map_more, take_all, drop_all, length-take-le, length-drop, length-map, length_push, get_or-set_same, get_or-set_other, get_or_default, length-set}
 use Rattle.std.proofs.lemmas.Bool.Decides.{eqb_tells}
 use Rattle.cp_call.specs.declared.call.Entry.{Entry}
 use Rattle.cp_turn.specs.Passes.{PassView}

@@ -8,7 +8,7 @@ use Rattle.cp_turn.specs.Passes.{PassView, TurnstileView, fresh, AreFresh}
 use Rattle.cp_hall.specs.declared.hall.HallRow.{HallRow}
 use Rattle.cp_hall.specs.Hall.{HallObject, hall_object, history_at, AreLegal}
 use Rattle.cp_turn_hall.specs.declared.pass.ObjectPass.{ObjectPass}
-use Rattle.cp_turn_hall.specs.Behind.{HallPassView, hall_at_start, Serves, IsPassOf, AreNew, new_pass, at_place, seen_at}
+use Rattle.cp_turn_hall.specs.Behind.{HallPassView, hall_at_start, Serves, IsPassOf, AreNew, at_place, seen_at}
 
 abbrev Turnstiles : Type 0
 Turnstiles = List (TurnstileView HallRow)

@@ -1,5 +1,5 @@
 -- A seat that has asked an object.
-use Rattle.std.proofs.Common.{◌≡◌, ◌≢◌, ℕ, ◌<◌, List, ◌++◌, length, refl, sym, ◌∙◌, ap, subst, Some, arith}
+use Rattle.std.proofs.Common.{◌≡◌, ◌≢◌, ℕ, ◌<◌, List, ◌++◌, length, sym, ◌∙◌, ap, subst, Some}
 use Rattle.std.specs.Prelude.{◌^◌, ◌-◌, slice_get, slice_set}
 use Rattle.std.proofs.lemmas.Option.{slice_get_within}
 use Rattle.cp_call.specs.declared.call.Call.{Call}

@@ -1,8 +1,8 @@
 -- The objects come out from behind their turnstiles, the last first.
-use Rattle.std.proofs.Common.{◌≡◌, ◌≢◌, ℕ, zero, suc, ◌+◌, ◌-◌, ◌<◌, ◌≤◌, List, [], ◌∷◌, ◌++◌, append_assoc, append-nil, length, length-append, take, refl, sym, ◌∙◌, ap, subst, None, inl, inr, arith}
+use Rattle.std.proofs.Common.{◌≡◌, ◌≢◌, ℕ, zero, suc, ◌+◌, ◌-◌, ◌<◌, List, [], ◌∷◌, ◌++◌, append_assoc, append-nil, length, length-append, take, refl, sym, ◌∙◌, ap, subst, None, inl, inr, arith}
 use Rattle.std.proofs.lemmas.Bool.Decides.{eqb_tells}
 use Rattle.std.specs.Prelude.{map, All, slice_index_or}
-use Rattle.std.proofs.lemmas.List.{take_at, take-take, length_push, length-take-le, take_all, get_or-map, length-map, nil_from_length, get_or_push, get_or_default, get_or_append_left}
+use Rattle.std.proofs.lemmas.List.{take-take, length_push, length-take-le, take_all, get_or-map, length-map, nil_from_length, get_or_push, get_or_default, get_or_append_left}
 use Rattle.std.proofs.lemmas.List.Elements.{All-map, All-head, All-tail}
 use Rattle.cp_call.specs.declared.call.Entry.{Entry}
 use Rattle.cp_call.specs.Sound.{Object, own_entries}
@@ -12,7 +12,7 @@ use Rattle.cp_turn.specs.Passes.{PassView, TurnstileView, IsOutside, ExtendsSeen
 use Rattle.cp_hall.specs.declared.hall.HallRow.{HallRow}
 use Rattle.cp_hall.specs.Hall.{HallObject, hall_object, with_entries, objects_of, history_at, AreLegal}
 use Rattle.cp_turn_hall.specs.declared.pass.ObjectPass.{ObjectPass}
-use Rattle.cp_turn_hall.specs.Behind.{HallPassView, hall_at_start, IsPlaceOf, Serves, IsPassOf, IsSeenIn, at_place, seen_at}
+use Rattle.cp_turn_hall.specs.Behind.{HallPassView, hall_at_start, IsPlaceOf, Serves, IsPassOf, IsSeenIn, at_place}
 use Rattle.cp_turn_hall.specs.Grown.{GrownView}
 use Rattle.cp_turn_hall.specs.Closing.{last_pass, last_seen, without_last, IsTakenOut}
 use Rattle.cp_turn_hall.proofs.Places.{serves_length, place_past}

@@ -1,20 +1,20 @@
 -- A turn at one object, told of the whole hall.
-use Rattle.std.proofs.Common.{◌≡◌, ◌≢◌, ℕ, ◌+◌, ◌<◌, List, [], ◌∷◌, ◌++◌, append_assoc, length, refl, sym, ◌∙◌, ap, subst, Some, None, arith}
+use Rattle.std.proofs.Common.{◌≡◌, ◌≢◌, ℕ, ◌+◌, ◌<◌, List, [], ◌++◌, append_assoc, length, sym, ◌∙◌, ap, subst, Some, None}
 use Rattle.std.proofs.lemmas.List.Elements.{filter-append}
 use Rattle.std.proofs.lemmas.Option.{slice_get_within}
-use Rattle.std.specs.Prelude.{◌==◌, ◌^◌, ◌-◌, min, slice_get, slice_set, IfSome}
+use Rattle.std.specs.Prelude.{◌==◌, ◌^◌, ◌-◌, min, slice_get, slice_set}
 use Rattle.cp_call.specs.declared.call.Call.{Call}
 use Rattle.cp_call.specs.declared.call.Entry.{Entry}
 use Rattle.cp_call.specs.declared.asked.Asked.{Asked}
-use Rattle.cp_call.specs.Sound.{Object, own_entries}
+use Rattle.cp_call.specs.Sound.{own_entries}
 use Rattle.cp_call.specs.History.{Legal}
 use Rattle.cp_call.specs.Asker.{entry_added, looked_after, IsFullBy, IsStill}
 use Rattle.cp_list.specs.Lists.{IsPrefix}
 use Rattle.cp_turn.specs.Passes.{PassView, TurnstileView}
 use Rattle.cp_hall.specs.declared.hall.HallRow.{HallRow}
-use Rattle.cp_hall.specs.Hall.{hall_object, objects_of, history_at, with_entries, IsAnswered}
+use Rattle.cp_hall.specs.Hall.{hall_object, with_entries, IsAnswered}
 use Rattle.cp_turn_hall.specs.declared.pass.ObjectPass.{ObjectPass}
-use Rattle.cp_turn_hall.specs.Behind.{SeatView, hall_at_start, at_place, seen_at, looked_at, turns_at}
+use Rattle.cp_turn_hall.specs.Behind.{at_place, seen_at}
 use Rattle.cp_turn_hall.specs.Grown.{GrownView}
 use Rattle.cp_turn_hall.specs.Turn.{IsTurn, SamePlace, IsPlaceTurn}
 use Rattle.cp_turn_hall.proofs.Places.{place_is, place_here, place_there, first_history, first_object}

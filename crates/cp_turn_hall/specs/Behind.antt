@@ -1,9 +1,9 @@
 -- Shared objects behind turnstiles, and the passes of their callers.
-use Rattle.std.specs.Prelude.{ℕ, zero, suc, ◌≡◌, ◌≢◌, ◌==◌, ◌+◌, ◌<◌, cond, List, [], ◌∷◌, ◌++◌, map, length, slice_index_or, All}
+use Rattle.std.specs.Prelude.{ℕ, zero, suc, ◌≡◌, ◌==◌, ◌+◌, ◌<◌, cond, List, [], ◌∷◌, ◌++◌, map, length, slice_index_or}
 use Rattle.cp_call.specs.declared.call.Entry.{Entry}
 use Rattle.cp_call.specs.Sound.{own_entries}
 use Rattle.cp_list.specs.Lists.{IsPrefix}
-use Rattle.cp_turn.specs.Passes.{PassView, TurnstileView, IsOutside, fresh}
+use Rattle.cp_turn.specs.Passes.{TurnstileView, IsOutside, fresh}
 use Rattle.cp_hall.specs.declared.hall.HallRow.{HallRow}
 use Rattle.cp_hall.specs.Hall.{HallObject, hall_object, history_at}
 use Rattle.cp_turn_hall.specs.declared.pass.ObjectPass.{ObjectPass}

@@ -1,5 +1,5 @@
 -- What one turn at a shared object does.
-use Rattle.std.specs.Prelude.{ℕ, ◌≡◌, ◌+◌, ◌^◌, ◌-◌, min, List, [], ◌++◌, Option, Some, IfSome, slice_get}
+use Rattle.std.specs.Prelude.{ℕ, ◌≡◌, ◌+◌, ◌^◌, ◌-◌, min, List, [], ◌++◌, Some, IfSome, slice_get}
 use Rattle.cp_call.specs.declared.call.Call.{Call}
 use Rattle.cp_call.specs.declared.call.Entry.{Entry}
 use Rattle.cp_call.specs.declared.asked.Asked.{Asked}

@@ -1,4 +1,4 @@
-use Rattle.std.proofs.Common.{◌≡◌, ◌<◌, ◌+◌, ℕ, List, length, get_or, set, subst, sym, ◌∙◌, ap, arith, rules}
+use Rattle.std.proofs.Common.{◌≡◌, ◌<◌, ℕ, List, length, get_or, set, ◌∙◌, ap, arith, rules}
 use Rattle.std.specs.Prelude.{slice_index_or}
 use Rattle.cp_call.specs.declared.call.Entry.{Entry}
 use Rattle.cp_turn.specs.Passes.{PassView}

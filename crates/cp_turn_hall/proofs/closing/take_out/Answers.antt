@@ -1,4 +1,4 @@
-use Rattle.std.proofs.Common.{◌≢◌, ℕ, sym, subst}
+use Rattle.std.proofs.Common.{◌≢◌, sym, subst}
 use Rattle.std.specs.Prelude.{All}
 use Rattle.cp_call.specs.declared.call.Entry.{Entry}
 use Rattle.cp_turn.specs.Passes.{PassView, IsOutside, ExtendsSeen}

@@ -1,8 +1,8 @@
-use Rattle.std.proofs.Common.{◌≡◌, length, List, sym, ◌∙◌, ap, subst}
+use Rattle.std.proofs.Common.{◌≡◌, length, List, sym, ◌∙◌, subst}
 use Rattle.cp_call.specs.declared.call.Entry.{Entry}
 use Rattle.cp_turn.specs.Passes.{PassView, TurnstileView, AreFresh}
 use Rattle.cp_hall.specs.declared.hall.HallRow.{HallRow}
-use Rattle.cp_turn_hall.specs.Behind.{HallPassView, AreNew}
+use Rattle.cp_turn_hall.specs.Behind.{AreNew}
 use Rattle.cp_turn_hall.proofs.HandingOut.{new_push}
 use Rattle.cp_turn_hall.proofs.opening.add_object.Goals as goal
 

@@ -1,10 +1,10 @@
-use Rattle.std.proofs.Common.{◌≡◌, List, [], ◌++◌, length, map, sym, ◌∙◌, ap, subst, append-nil}
+use Rattle.std.proofs.Common.{◌≡◌, List, [], ◌++◌, map, sym, ◌∙◌, subst, append-nil}
 use Rattle.std.specs.Prelude.{All}
 use Rattle.std.proofs.lemmas.List.{nil_from_length}
 use Rattle.std.proofs.lemmas.List.Elements.{All-push}
 use Rattle.cp_turn.specs.Passes.{TurnstileView}
 use Rattle.cp_hall.specs.declared.hall.HallRow.{HallRow}
-use Rattle.cp_hall.specs.Hall.{HallObject, hall_object}
+use Rattle.cp_hall.specs.Hall.{hall_object}
 use Rattle.cp_turn_hall.specs.Behind.{hall_at_start}
 use Rattle.cp_turn_hall.proofs.HandingOut.{start_push, legal_rest, new_are_of, new_have_seen}
 use Rattle.cp_turn_hall.proofs.opening.turn_hall.Goals as goal

@@ -1,4 +1,4 @@
-use Rattle.std.proofs.Common.{◌≡◌, ◌≢◌, List, [], ◌∷◌, length, map, sym, ◌∙◌, ap, subst, arith}
+use Rattle.std.proofs.Common.{◌≡◌, List, [], ◌∷◌, map, sym, ◌∙◌, ap, subst, arith}
 use Rattle.std.specs.Prelude.{All}
 use mathlib.Core.List.{reverse}
 use Rattle.std.proofs.lemmas.List.{reverse-append}
@@ -7,7 +7,7 @@ use Rattle.cp_list.specs.Lists.{IsPrefix}
 use Rattle.cp_turn.specs.Passes.{TurnstileView}
 use Rattle.cp_hall.specs.declared.hall.HallRow.{HallRow}
 use Rattle.cp_hall.specs.Hall.{HallObject, hall_object, objects_of, history_at, AreLegal}
-use Rattle.cp_turn_hall.specs.Behind.{HallPassView, hall_at_start, IsPassOf, IsSeenIn}
+use Rattle.cp_turn_hall.specs.Behind.{hall_at_start, IsSeenIn}
 use Rattle.cp_turn_hall.proofs.TakingOut.{AreOut, IsMidway, starts, are_of, callers_are, goes_on, finished, objects_out, legal_out, grown_out, others_out, seen_out}
 use Rattle.cp_turn_hall.proofs.hall.TurnHall.close.Goals as goal
 
