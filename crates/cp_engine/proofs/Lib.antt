@@ -3,4 +3,3 @@ pub mod AnswerLaws
 pub mod MoveLaws
 pub mod WalkLaws
 pub mod StartedLaws
-pub mod TestLaws
