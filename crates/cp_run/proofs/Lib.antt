@@ -7,3 +7,4 @@ pub mod EnteringLaws
 pub mod ProgramLaws
 pub mod StartLaws
 pub mod GainLaws
+pub mod SelectionLaws

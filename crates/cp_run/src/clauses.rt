@@ -1,6 +1,8 @@
-ghost use Rattle.std.specs.Prelude.{◌≡◌, ℕ, ◌<◌, ◌∷◌, [], cond, None, Some, length, get_or, reverse, IfOk, OnOk};
+ghost use Rattle.std.specs.Prelude.{◌≡◌, ℕ, ◌<◌, ◌∷◌, [], cond, false, None, Some, length, get_or, reverse, IfOk, OnOk};
 ghost use Rattle.cp_term.specs.Unification.{unify as unify_by};
+ghost use Rattle.cp_term.specs.Numbering.{fresh};
 ghost use Rattle.cp_heap.specs.State.{IsLive};
+ghost use Rattle.cp_code.specs.Clauses.{head_of};
 ghost use Rattle.cp_code.specs.Code.{Code};
 ghost use Rattle.cp_code.specs.Programs.{clause_of, code_of};
 ghost use Rattle.cp_run.specs.Shown.{back, bound, instance_in, here_of, rules_from, frames_shown, frames_of, shown, moved};
@@ -16,8 +18,9 @@ use crate::moment::Moment;
 use crate::point::Point;
 use crate::program_clauses::clause_at;
 use crate::run::Run;
-use cp_code::{Clause, Program};
-use cp_heap::{Mark, Ref};
+use crate::selection::may_match;
+use cp_code::{Clause, Program, candidates_are_enough};
+use cp_heap::{Mark, Ref, instances_have_the_variables_of_the_heap};
 use cp_term::Name;
 use cp_unify::unify_since;
 use std::alloc::AllocError;
@@ -146,6 +149,18 @@ impl Run {
         Ok(())
     }
 
+    /// Whether a goal may be made one with the head of a clause, as far as their first arguments tell.
+    fn can_try(&self, clause: &Clause, goal: Ref) -> bool
+        requires holds { Holds self.now }
+        requires goal { goal.at < length self.now.heap.terms }
+        ensures { result ≡ false → (next : ℕ) → unify_by (bound (here_of self.now)) (instance_in (here_of self.now) goal.at) (fresh next (head_of clause.now.whole)) ≡ None }
+    {
+        let _mark = self.heap.mark();
+        instances_have_the_variables_of_the_heap();
+        candidates_are_enough();
+        may_match(&self.heap, goal, clause)
+    }
+
     /// A clause of a predicate is tried, with those from `from` on behind it.
     pub fn try_clause(
         &mut self,
@@ -163,6 +178,16 @@ impl Run {
         ensures moved { OnOk result ((code : Code) → shown code self.new ≡ moved code self.old rest level (clause_row (rules_from code pred from) (clause_of clause.now) (instance_in (here_of self.old) goal.at))) }
         ensures stands { OnOk result (Stands self.new) }
     {
+        if !self.can_try(clause, goal) {
+            self.go(Point::Tries {
+                pred,
+                from,
+                goal,
+                rest,
+                level,
+            });
+            return Ok(());
+        }
         let moment = self.moment();
         let parts = self.put_clause(clause)?;
         let unified = self.unify_since(moment.mark, goal, parts.head)?;

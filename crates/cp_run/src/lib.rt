@@ -16,6 +16,7 @@ mod program_clauses;
 mod rows;
 mod run;
 mod run_control;
+mod selection;
 mod started;
 mod throwing;
 mod undo;
