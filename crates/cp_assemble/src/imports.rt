@@ -1,9 +1,10 @@
 ghost use Rattle.std.specs.Prelude.{◌≡◌, ◌++◌, map, IfOk, OnOk};
 ghost use Rattle.std.specs.List.{flat_map};
+ghost use Rattle.cp_link.specs.Exported.{shown};
 ghost use Rattle.cp_link.specs.Linked.{import_in, imports_of};
 
 use cp_code::{Import, Imports, PredNames};
-use cp_link::{imports_in, name_of};
+use cp_link::{ModuleExports, all_exports, imports_in, name_of};
 use cp_module::ModulePart;
 use cp_term::{Name, PredName};
 use std::alloc::{AllocError, Global};
@@ -13,8 +14,9 @@ pub(crate) fn imports(alloc: Global, parts: &[ModulePart]) -> Result<Imports, Al
     ensures { IfOk result (λ all. all ≡ flat_map (imports_of parts.now) parts.now) }
 {
     let mut all = Imports::new(alloc);
+    let modules = all_exports(alloc, parts)?;
     for part in parts {
-        push_imports_of(alloc, &mut all, parts, part)?;
+        push_imports_of(alloc, &mut all, parts, modules.as_slice(), part)?;
     }
     Ok(all)
 }
@@ -23,12 +25,20 @@ fn push_imports_of(
     alloc: Global,
     all: &mut Imports,
     parts: &[ModulePart],
+    modules: &[ModuleExports],
     part: &ModulePart,
 ) -> Result<(), AllocError>
+    requires { modules.now ≡ map shown parts.now }
     ensures { OnOk result (all.new ≡ all.old ++ imports_of parts.now part.now) }
 {
     let name = name_of(alloc, part)?;
-    let preds = imports_in(alloc, parts, part.file(), part.clauses().as_slice())?;
+    let preds = imports_in(
+        alloc,
+        parts,
+        modules,
+        part.file(),
+        part.clauses().as_slice(),
+    )?;
     push_seen(all, &name, preds)
 }
 

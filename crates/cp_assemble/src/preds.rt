@@ -1,6 +1,7 @@
 ghost use Rattle.std.specs.Prelude.{◌≡◌, ◌++◌, map, IfOk, OnOk};
 ghost use Rattle.cp_module.specs.Causes.{clauses_of};
 ghost use Rattle.cp_link.specs.Lawful.{AllHaveBodies};
+ghost use Rattle.cp_link.specs.Modules.{name_of};
 ghost use Rattle.cp_link.specs.Linked.{clause_in, marks_in, pred_in, preds_in};
 ghost use Rattle.cp_assemble.specs.Indexed.{IsIndexOf};
 
@@ -42,8 +43,9 @@ fn push_each(
     requires { IsIndexOf part.now.clauses index.now }
     ensures { OnOk result (all.new ≡ all.old ++ map (pred_in shared.now part.now) preds.now) }
 {
+    let name = name_of(alloc, part)?;
     for pred in preds {
-        let info = pred_in(alloc, shared, part, index, pred)?;
+        let info = pred_in(alloc, shared, part, &name, index, pred)?;
         all.push(info)?;
     }
     Ok(())
@@ -53,16 +55,17 @@ fn pred_in(
     alloc: Global,
     shared: &Objects,
     part: &ModulePart,
+    module_name: &Name,
     index: &FileIndex,
     pred: &Indicator,
 ) -> Result<PredInfo, AllocError>
-    requires { IsIndexOf part.now.clauses index.now }
+    requires name { module_name.now ≡ name_of part.now }
+    requires index { IsIndexOf part.now.clauses index.now }
     ensures { IfOk result (λ info. info ≡ pred_in shared.now part.now pred.now) }
 {
-    let name = name_of(alloc, part)?;
     Ok(PredInfo {
-        name: in_module(&name, pred)?,
-        clauses: clauses_in(alloc, &name, part, index, pred)?,
+        name: in_module(module_name, pred)?,
+        clauses: clauses_in(alloc, module_name, part, index, pred)?,
         kind: kind_in(alloc, shared, part, index.shared.as_slice(), pred)?,
         goals: marks_in(alloc, part, index, pred)?,
     })

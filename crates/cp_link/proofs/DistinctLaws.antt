@@ -31,7 +31,7 @@ any_kept eq t x p h (y ∷ ys) = go (any_kept eq t x p h ys) (eq p y) refl
     go ih false e = ap (λ r. eq x y || r) ih
     go ih true e = ih ∙ ap (λ r. r || list_any (eq x) ys) (sym (subst (λ q. eq x q ≡ false) (t.alike p y e) h))
 
-turned : {X : Type 0} (eq : X → X → Bool) → Tells eq → (x p : X) (b : Bool) → eq x p ≡ b → eq p x ≡ b
+pub turned : {X : Type 0} (eq : X → X → Bool) → Tells eq → (x p : X) (b : Bool) → eq x p ≡ b → eq p x ≡ b
 turned eq t x p true h = subst (λ q. eq q x ≡ true) (t.alike x p h) (t.itself x)
 turned eq t x p false h = go (eq p x) refl
   where
@@ -77,7 +77,18 @@ distinct_once : (xs : List Indicator) → distinct xs ≡ once same xs
 distinct_once [] = refl
 distinct_once (x ∷ xs) = ap (λ ys. x ∷ filter (λ q. not (same x q)) ys) (distinct_once xs)
 
-distinct_more : (xs : List Indicator) (x : Indicator) → distinct (xs ++ x ∷ []) ≡ with_item same (distinct xs) x
+any_once : {X : Type 0} (eq : X → X → Bool) → Tells eq → (x : X) (xs : List X) → list_any (eq x) (once eq xs) ≡ list_any (eq x) xs
+any_once eq t x [] = refl
+any_once eq t x (p ∷ ps) = go (eq x p) refl (any_once eq t x ps)
+  where
+    go : (b : Bool) → eq x p ≡ b → list_any (eq x) (once eq ps) ≡ list_any (eq x) ps → (b || list_any (eq x) (filter (λ y. not (eq p y)) (once eq ps))) ≡ (b || list_any (eq x) ps)
+    go true e ih = refl
+    go false e ih = any_kept eq t x p e (once eq ps) ∙ ih
+
+pub distinct_in : (xs : List Indicator) (x : Indicator) → is_in (distinct xs) x ≡ is_in xs x
+distinct_in xs x = ap (λ ys. is_in ys x) (distinct_once xs) ∙ any_once same same_tells x xs
+
+pub distinct_more : (xs : List Indicator) (x : Indicator) → distinct (xs ++ x ∷ []) ≡ with_item same (distinct xs) x
 distinct_more xs x = distinct_once (xs ++ x ∷ []) ∙ once_more same same_tells xs x ∙ ap (λ ys. with_item same ys x) (sym (distinct_once xs))
 
 pub distinct_there : (xs all : List Indicator) (x : Indicator) → all ≡ distinct xs → is_in all x ≡ true → all ≡ distinct (xs ++ x ∷ [])

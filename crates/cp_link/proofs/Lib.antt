@@ -1,4 +1,7 @@
 pub mod DistinctLaws
+mod KeyLaws
+mod ModuleLaws
+mod OriginLaws
 mod LeastLaws
 mod Passing
 mod Refusing

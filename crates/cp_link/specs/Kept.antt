@@ -1,7 +1,8 @@
 -- What is kept of a file while its clauses are looked at one after another, and the causes of a clause by what is kept.
-use Rattle.std.specs.Prelude.{◌≡◌, ℕ, ◌+◌, ◌++◌, Bool, false, not, nat_lt, nat_le, cond, List, length, min, Option, Some, None}
+use Rattle.std.specs.Prelude.{◌≡◌, ℕ, ◌+◌, ◌++◌, Bool, false, not, nat_lt, nat_le, cond, List, [], map, length, min, Option, Some, None, unwrap_or}
 use Rattle.std.specs.List.{list_any}
 use Rattle.cp_term.specs.declared.cell.Cell.{Cell}
+use Rattle.cp_term.specs.declared.pred_name.PredName.{PredName}
 use Rattle.cp_read.specs.declared.clause.ReadClause.{ReadClause}
 use Rattle.cp_declaration.specs.declared.declaration.Declaration.{Declaration}
 use Rattle.cp_declaration.specs.declared.declaration.Declaration.TheVariants as declares
@@ -12,10 +13,10 @@ use Rattle.cp_module.specs.declared.why.Why.{Why}
 use Rattle.cp_module.specs.declared.why.Why.TheVariants as why
 use Rattle.cp_module.specs.Parts.{Part}
 use Rattle.cp_module.specs.Paths.{imported_file}
-use Rattle.cp_module.specs.Causes.{pred_of, shares, unless}
+use Rattle.cp_module.specs.Causes.{pred_of, shares, unless, is_in}
 use Rattle.cp_link.specs.declared.exported.ModuleExports.{ModuleExports}
 use Rattle.cp_link.specs.declared.kept.Kept.{Kept}
-use Rattle.cp_link.specs.Modules.{name_of, said, shared_in, rules_in}
+use Rattle.cp_link.specs.Modules.{name_of, in_module, said, shared_in, rules_in}
 use Rattle.cp_link.specs.Imports.{file_named, imports_by, active_in, is_imported}
 use Rattle.cp_link.specs.Written.{written_in}
 use Rattle.cp_link.specs.Exported.{is_exported_in}
@@ -76,6 +77,16 @@ rule_by all kept c =
 
 abbrev pub clause_by : List Part → (before : List Part) → (file : List ℕ) → List ModuleExports → Kept → ReadClause → Option Why
 clause_by parts before file all kept c = cond (is_declaration c.term) (declaration_by parts before file kept c (said c)) (rule_by all kept c)
+
+-- what is imported from a module: the predicates that are named, or else all that it exports
+abbrev pub from_module : Option (List Indicator) → Option ModuleExports → List PredName
+from_module imports None = []
+from_module imports (Some m) = map (in_module m.module_name) (unwrap_or imports m.exports)
+
+abbrev pub lacks_of : Option ModuleExports → Option (List Indicator) → Bool
+lacks_of None imports = false
+lacks_of (Some m) None = false
+lacks_of (Some m) (Some imports) = list_any (λ p. not (is_in m.exports p)) imports
 
 abbrev pub fault_of : Refusal → Fault
 fault_of r = record { file = r.file; cause = record { line = r.line; why = r.why } }

@@ -4,5 +4,8 @@ pub mod Written
 pub mod Exported
 pub mod Refusals
 pub mod Kept
+pub mod Keyed
+pub mod Listed
+pub mod Imported
 pub mod Linked
 pub mod Lawful

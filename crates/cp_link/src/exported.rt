@@ -4,28 +4,28 @@ ghost use Rattle.cp_code.specs.Bodies.{is};
 ghost use Rattle.cp_code.specs.Programs.{is_of_prelude};
 ghost use Rattle.cp_link.specs.Exported.{shown, exports_it_in, is_active, is_exported_by, is_exported_in};
 
-use crate::clauses::is_in;
-use crate::exports::exports_of;
+use crate::exports::export_list;
 use crate::names::name_of;
+use crate::pred_list::PredList;
 use crate::spot::Written;
-use cp_declaration::{Indicator, Indicators};
+use cp_declaration::Indicator;
 use cp_list::ListOf;
 use cp_module::ModulePart;
 use cp_term::{Name, PredName};
 use std::alloc::{AllocError, Global};
 
 /// A module and what it exports.
-#[derive(Debug, Drop)]
-pub(crate) struct ModuleExports {
+#[derive(Drop)]
+pub struct ModuleExports {
     pub(crate) module_name: Name,
-    pub(crate) exports: Indicators,
+    pub(crate) exports: PredList,
 }
 
 /// What the modules of a program export, in loading order.
-pub(crate) type AllExports = ListOf<ModuleExports>;
+pub type AllExports = ListOf<ModuleExports>;
 
 /// What the files export.
-pub(crate) fn all_exports(alloc: Global, parts: &[ModulePart]) -> Result<AllExports, AllocError>
+pub fn all_exports(alloc: Global, parts: &[ModulePart]) -> Result<AllExports, AllocError>
     ensures { IfOk result (λ all. all ≡ map shown parts.now) }
 {
     let mut all = AllExports::new(alloc);
@@ -40,7 +40,7 @@ fn shown(alloc: Global, part: &ModulePart) -> Result<ModuleExports, AllocError>
     ensures { IfOk result (λ shown_part. shown_part ≡ shown part.now) }
 {
     let module_name = name_of(alloc, part)?;
-    let exports = exports_of(alloc, part)?;
+    let exports = export_list(alloc, part)?;
     Ok(ModuleExports {
         module_name,
         exports,
@@ -49,12 +49,16 @@ fn shown(alloc: Global, part: &ModulePart) -> Result<ModuleExports, AllocError>
 
 /// Whether a goal may be written with this module: its predicate is exported by a module of the program, by the prelude or
 /// by an active module.
-pub(crate) fn is_exported(all: &[ModuleExports], active: &[PredName], written: &Written) -> bool
-    ensures { result ≡ is_exported_in all.now active.now written.now }
+pub(crate) fn is_exported(
+    all: &[ModuleExports],
+    active: &[PredName],
+    written: &Written,
+) -> Result<bool, AllocError>
+    ensures { IfOk result (λ found. found ≡ is_exported_in all.now active.now written.now) }
 {
     match &written.pred {
         Some(pred) => is_exported_by(all, active, &written.module_name, pred),
-        None => false,
+        None => Ok(false),
     }
 }
 
@@ -63,18 +67,29 @@ fn is_exported_by(
     active: &[PredName],
     module_name: &Name,
     pred: &Indicator,
-) -> bool
-    ensures { result ≡ is_exported_by all.now active.now module_name.now (Some pred.now) }
+) -> Result<bool, AllocError>
+    ensures { IfOk result (λ found. found ≡ is_exported_by all.now active.now module_name.now (Some pred.now)) }
 {
-    is_exported_by_prelude(module_name, pred)
-        || is_exported_by_one(all, module_name, pred)
-        || is_one_active(active, module_name, pred)
+    if is_exported_by_prelude(module_name, pred) {
+        return Ok(true);
+    }
+    let found = is_exported_by_one(all, module_name, pred)?;
+    Ok(found || is_one_active(active, module_name, pred))
 }
 
-fn is_exported_by_one(all: &[ModuleExports], module_name: &Name, pred: &Indicator) -> bool
-    ensures { result ≡ list_any (exports_it_in module_name.now pred.now) all.now }
+fn is_exported_by_one(
+    all: &[ModuleExports],
+    module_name: &Name,
+    pred: &Indicator,
+) -> Result<bool, AllocError>
+    ensures { IfOk result (λ found. found ≡ list_any (exports_it_in module_name.now pred.now) all.now) }
 {
-    all.iter().any(|of| of.exports_it(module_name, pred))
+    for of in all {
+        if of.exports_it(module_name, pred)? {
+            return Ok(true);
+        }
+    }
+    Ok(false)
 }
 
 fn is_one_active(active: &[PredName], module_name: &Name, pred: &Indicator) -> bool
@@ -102,10 +117,13 @@ fn is_of_prelude(name: &[u8], arity: u16) -> bool
 }
 
 impl ModuleExports {
-    fn exports_it(&self, module_name: &Name, pred: &Indicator) -> bool
-        ensures { result ≡ exports_it_in module_name.now pred.now self.now }
+    fn exports_it(&self, module_name: &Name, pred: &Indicator) -> Result<bool, AllocError>
+        ensures { IfOk result (λ found. found ≡ exports_it_in module_name.now pred.now self.now) }
     {
-        self.module_name.bytes() == module_name.bytes() && is_in(self.exports.as_slice(), pred)
+        if self.module_name.bytes() != module_name.bytes() {
+            return Ok(false);
+        }
+        self.exports.has(pred)
     }
 }
 

@@ -1,10 +1,11 @@
-ghost use Rattle.std.specs.Prelude.{◌≡◌, ◌∷◌, ◌++◌, [], List, IfOk, OnOk};
+ghost use Rattle.std.specs.Prelude.{◌≡◌, ◌∷◌, ◌++◌, [], List, IfOk};
 ghost use Rattle.cp_declaration.specs.declared.indicator.Indicator.{Indicator as Pred};
 ghost use Rattle.cp_declaration.specs.Declarations.{declaration};
 ghost use Rattle.cp_module.specs.Causes.{exported_by, header_exports};
 ghost use Rattle.cp_link.specs.Modules.{one, distinct, mentions, own_preds, exports_of};
 
-use crate::clauses::{is_in, pred_of, shares};
+use crate::clauses::{pred_of, shares};
+use crate::pred_list::PredList;
 use cp_declaration::{Declaration, Indicator, Indicators, declaration_of};
 use cp_module::ModulePart;
 use cp_read::ReadClause;
@@ -14,55 +15,65 @@ use std::alloc::{AllocError, Global};
 pub fn own_preds(alloc: Global, clauses: &[ReadClause]) -> Result<Indicators, AllocError>
     ensures { IfOk result (λ preds. preds ≡ own_preds clauses.now) }
 {
-    let mut all = Indicators::new(alloc);
+    let all = own_list(alloc, clauses)?;
+    Ok(all.into_preds())
+}
+
+fn own_list(alloc: Global, clauses: &[ReadClause]) -> Result<PredList, AllocError>
+    ensures { IfOk result (λ preds. preds ≡ own_preds clauses.now) }
+{
+    let mut all = PredList::new(alloc);
     for clause in clauses {
-        push_mentions(alloc, &mut all, clause)?;
+        let longer = with_mentions(alloc, all, clause)?;
+        all = longer;
     }
     Ok(all)
 }
 
 /// Adds what a clause makes the module's own.
-fn push_mentions(alloc: Global, all: &mut Indicators, clause: &ReadClause) -> Result<(), AllocError>
-    ensures { OnOk result ((before : List Pred) → all.old ≡ distinct before → all.new ≡ distinct (before ++ mentions clause.now)) }
+fn with_mentions(alloc: Global, all: PredList, clause: &ReadClause) -> Result<PredList, AllocError>
+    ensures { IfOk result (λ longer. (before : List Pred) → all ≡ distinct before → longer ≡ distinct (before ++ mentions clause.now)) }
 {
     let preds = shares(alloc, clause)?;
-    push_each(all, preds)?;
+    let more = with_each(all, preds)?;
     let found = pred_of(clause)?;
-    push_one(all, found)?;
-    Ok(())
+    let longer = with_one(more, found)?;
+    Ok(longer)
 }
 
-fn push_one(all: &mut Indicators, found: Option<Indicator>) -> Result<(), AllocError>
-    ensures { OnOk result ((before : List Pred) → all.old ≡ distinct before → all.new ≡ distinct (before ++ one found)) }
+fn with_one(all: PredList, found: Option<Indicator>) -> Result<PredList, AllocError>
+    ensures { IfOk result (λ longer. (before : List Pred) → all ≡ distinct before → longer ≡ distinct (before ++ one found)) }
 {
     match found {
         Some(pred) => {
-            push_new(all, pred)?;
-            Ok(())
+            let longer = with_new(all, pred)?;
+            Ok(longer)
         }
-        None => Ok(()),
+        None => Ok(all),
     }
 }
 
-fn push_each(all: &mut Indicators, preds: Indicators) -> Result<(), AllocError>
-    ensures { OnOk result ((before : List Pred) → all.old ≡ distinct before → all.new ≡ distinct (before ++ preds)) }
+fn with_each(all: PredList, preds: Indicators) -> Result<PredList, AllocError>
+    ensures { IfOk result (λ longer. (before : List Pred) → all ≡ distinct before → longer ≡ distinct (before ++ preds)) }
 {
+    let mut list = all;
     for pred in preds.into_vec() {
-        push_new(all, pred)?;
+        let longer = with_new(list, pred)?;
+        list = longer;
     }
-    Ok(())
+    Ok(list)
 }
 
 /// Adds a predicate, unless it is there.
-fn push_new(all: &mut Indicators, pred: Indicator) -> Result<(), AllocError>
-    ensures { OnOk result ((before : List Pred) → all.old ≡ distinct before → all.new ≡ distinct (before ++ pred ∷ [])) }
+fn with_new(all: PredList, pred: Indicator) -> Result<PredList, AllocError>
+    ensures { IfOk result (λ longer. (before : List Pred) → all ≡ distinct before → longer ≡ distinct (before ++ pred ∷ [])) }
 {
-    let there = is_in(all.as_slice(), &pred);
+    let there = all.has(&pred)?;
     if there {
-        return Ok(());
+        return Ok(all);
     }
-    all.push(pred)?;
-    Ok(())
+    let longer = all.with(pred)?;
+    Ok(longer)
 }
 
 /// What a file exports: what its header names, or else every predicate that it defines.
@@ -72,6 +83,16 @@ pub fn exports_of(alloc: Global, part: &ModulePart) -> Result<Indicators, AllocE
     match header_exports(alloc, part.clauses().as_slice())? {
         Some(preds) => Ok(preds),
         None => own_preds(alloc, part.clauses().as_slice()),
+    }
+}
+
+/// What a file exports, with a table that finds it.
+pub(crate) fn export_list(alloc: Global, part: &ModulePart) -> Result<PredList, AllocError>
+    ensures { IfOk result (λ preds. preds ≡ exports_of part.now) }
+{
+    match header_exports(alloc, part.clauses().as_slice())? {
+        Some(preds) => PredList::of(alloc, preds.as_slice()),
+        None => own_list(alloc, part.clauses().as_slice()),
     }
 }
 

@@ -1,12 +1,16 @@
-ghost use Rattle.std.specs.Prelude.{◌≡◌, ◌++◌, map, IfOk, OnOk};
-ghost use Rattle.std.specs.Option.{option_copied};
+ghost use Rattle.std.specs.Prelude.{◌≡◌, ◌++◌, map, position, slice_get, IfOk, OnOk};
+ghost use Rattle.std.specs.Str.{bytes_eq};
+ghost use Rattle.std.specs.Option.{option_copied, option_map};
+ghost use Rattle.cp_module.specs.Parts.{Part};
 ghost use Rattle.cp_module.specs.Paths.{imported_file};
 ghost use Rattle.cp_link.specs.Modules.{in_module, said};
-ghost use Rattle.cp_link.specs.Imports.{file_named, from_part, imports_by, imports_in, active_by, active_in, is_imported};
+ghost use Rattle.cp_link.specs.Exported.{shown};
+ghost use Rattle.cp_link.specs.Imports.{file_named, from_part, imports_by, imports_in, active_by, active_in};
+ghost use Rattle.cp_link.specs.Kept.{from_module};
 
 use crate::clauses::said;
-use crate::exports::exports_of;
-use crate::names::{in_module, name_of};
+use crate::exported::ModuleExports;
+use crate::names::in_module;
 use cp_code::PredNames;
 use cp_declaration::{Declaration, Indicator, Indicators};
 use cp_module::{ModulePart, imported_file};
@@ -14,24 +18,47 @@ use cp_read::ReadClause;
 use cp_term::{Name, PredName};
 use std::alloc::{AllocError, Global};
 
-/// The file with this name among the files of a program.
-pub(crate) fn file_named<'a>(parts: &'a [ModulePart], file: &[u8]) -> Option<&'a ModulePart>
-    ensures { option_copied result ≡ file_named parts.now file.now }
+/// The place of the file with this name among the files of a program.
+fn place_of_file(parts: &[ModulePart], file: &[u8]) -> Option<usize>
+    ensures { result ≡ position (λ (p : Part). bytes_eq p.file file.now) parts.now }
 {
-    parts.iter().find(|part| part.file() == file)
+    parts.iter().position(|part| part.file() == file)
 }
 
-/// The file that a module of the file at this path imports under a name, among the files of a program.
-pub(crate) fn imported_part<'a>(
+fn module_at(modules: &[ModuleExports], at: usize) -> Option<&ModuleExports>
+    ensures { option_copied result ≡ slice_get modules.now at }
+{
+    modules.get(at)
+}
+
+/// The module of the file with this name among the files of a program.
+fn module_of_file<'a>(
+    parts: &[ModulePart],
+    modules: &'a [ModuleExports],
+    file: &[u8],
+) -> Option<&'a ModuleExports>
+    requires { modules.now ≡ map shown parts.now }
+    ensures { option_copied result ≡ option_map shown (file_named parts.now file.now) }
+{
+    match place_of_file(parts, file) {
+        Some(at) => module_at(modules, at),
+        None => None,
+    }
+}
+
+/// The module that a file at this path imports under a name, among those of the files of a program.
+pub(crate) fn imported_module<'a>(
     alloc: Global,
-    parts: &'a [ModulePart],
+    parts: &[ModulePart],
+    modules: &'a [ModuleExports],
     file: &[u8],
     name: &Name,
-) -> Result<Option<&'a ModulePart>, AllocError>
-    ensures { IfOk result (λ part. option_copied part ≡ file_named parts.now (imported_file file.now name.now)) }
+) -> Result<Option<&'a ModuleExports>, AllocError>
+    requires { modules.now ≡ map shown parts.now }
+    ensures { IfOk result (λ of. option_copied of ≡ option_map shown (file_named parts.now (imported_file file.now name.now))) }
 {
     let path = imported_file(alloc, file, name.bytes())?;
-    Ok(file_named(parts, path.as_slice()))
+    Ok(module_of_file(parts, modules, path.as_slice()))
 }
 
 /// Adds what a clause of a file imports.
@@ -39,9 +66,11 @@ pub(crate) fn push_imports(
     alloc: Global,
     all: &mut PredNames,
     parts: &[ModulePart],
+    modules: &[ModuleExports],
     file: &[u8],
     clause: &ReadClause,
 ) -> Result<(), AllocError>
+    requires { modules.now ≡ map shown parts.now }
     ensures { OnOk result (all.new ≡ all.old ++ imports_by parts.now file.now clause.now) }
 {
     match said(alloc, clause)? {
@@ -50,10 +79,7 @@ pub(crate) fn push_imports(
                 file: name,
                 imports,
             },
-        ) => {
-            let part = imported_part(alloc, parts, file, &name)?;
-            push_from(alloc, all, imports, part)
-        }
+        ) => { push_used(alloc, all, parts, modules, file, &name, imports) }
         Some(Declaration::UseActiveModule { name, preds }) => {
             push_named(all, &name, preds.as_slice())
         }
@@ -61,25 +87,38 @@ pub(crate) fn push_imports(
     }
 }
 
-/// Adds what is imported from a file: what is named, or else all that it exports.
-fn push_from(
+/// Adds what a file imports from a module under a name: what is named, or else all that it exports.
+fn push_used(
     alloc: Global,
     all: &mut PredNames,
+    parts: &[ModulePart],
+    modules: &[ModuleExports],
+    file: &[u8],
+    name: &Name,
     imports: Option<Indicators>,
-    part: Option<&ModulePart>,
 ) -> Result<(), AllocError>
-    ensures { OnOk result (all.new ≡ all.old ++ from_part imports (option_copied part.entry)) }
+    requires { modules.now ≡ map shown parts.now }
+    ensures { OnOk result (all.new ≡ all.old ++ from_part imports (file_named parts.now (imported_file file.now name.now))) }
 {
-    let Some(part) = part else {
+    let of = imported_module(alloc, parts, modules, file, name)?;
+    push_from(all, imports, of)?;
+    Ok(())
+}
+
+/// Adds what is imported from a module: what is named, or else all that it exports.
+fn push_from(
+    all: &mut PredNames,
+    imports: Option<Indicators>,
+    of: Option<&ModuleExports>,
+) -> Result<(), AllocError>
+    ensures { OnOk result (all.new ≡ all.old ++ from_module imports (option_copied of.entry)) }
+{
+    let Some(of) = of else {
         return Ok(());
     };
-    let name = name_of(alloc, part)?;
     match imports {
-        Some(preds) => push_named(all, &name, preds.as_slice()),
-        None => {
-            let preds = exports_of(alloc, part)?;
-            push_named(all, &name, preds.as_slice())
-        }
+        Some(preds) => push_named(all, &of.module_name, preds.as_slice()),
+        None => push_named(all, &of.module_name, of.exports.as_slice()),
     }
 }
 
@@ -97,18 +136,20 @@ pub fn push_named(
     Ok(())
 }
 
-/// What clauses of a file import, in their order.
+/// What clauses of a file import, in their order, where these are the modules of the files of the program.
 pub fn imports_in(
     alloc: Global,
     parts: &[ModulePart],
+    modules: &[ModuleExports],
     file: &[u8],
     clauses: &[ReadClause],
 ) -> Result<PredNames, AllocError>
+    requires { modules.now ≡ map shown parts.now }
     ensures { IfOk result (λ preds. preds ≡ imports_in parts.now file.now clauses.now) }
 {
     let mut all = PredNames::new(alloc);
     for clause in clauses {
-        push_imports(alloc, &mut all, parts, file, clause)?;
+        push_imports(alloc, &mut all, parts, modules, file, clause)?;
     }
     Ok(all)
 }
@@ -137,12 +178,4 @@ pub(crate) fn push_active(
         }
         _ => Ok(()),
     }
-}
-
-/// Whether a predicate is imported, by its name and its number of arguments.
-pub(crate) fn is_imported(imports: &[PredName], pred: &Indicator) -> bool
-    ensures { result ≡ is_imported imports.now pred.now }
-{
-    imports.iter().any(|import| import.name.bytes() == pred.name.bytes()
-        && import.arity == pred.arity)
 }

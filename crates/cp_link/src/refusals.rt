@@ -1,19 +1,20 @@
-ghost use Rattle.std.specs.Prelude.{◌≡◌, ◌+◌, nat_lt, not, None, IfOk};
+ghost use Rattle.std.specs.Prelude.{◌≡◌, ◌+◌, map, nat_lt, not, None, IfOk};
 ghost use Rattle.std.specs.List.{list_any};
 ghost use Rattle.std.specs.Option.{option_copied};
 ghost use Rattle.cp_module.specs.Causes.{is_in, pred_of, unless};
 ghost use Rattle.cp_module.specs.Paths.{imported_file};
 ghost use Rattle.cp_link.specs.Imports.{file_named, is_imported};
-ghost use Rattle.cp_link.specs.Exported.{is_exported_in};
-ghost use Rattle.cp_link.specs.Refusals.{is_module_of, is_taken, lacks, clashes_with, clash};
-ghost use Rattle.cp_link.specs.Kept.{import_by, shared_by, declaration_by, is_unexported_by, is_imported_by, rule_by, clause_by};
+ghost use Rattle.cp_link.specs.Exported.{shown, is_exported_in};
+ghost use Rattle.cp_link.specs.Refusals.{is_module_of, is_taken, lacks, clash};
+ghost use Rattle.cp_link.specs.Kept.{lacks_of, import_by, shared_by, declaration_by, is_unexported_by, is_imported_by, rule_by, clause_by};
 
-use crate::clauses::{is_in, pred_of, said};
+use crate::clauses::{pred_of, said};
 use crate::exported::{ModuleExports, is_exported};
-use crate::exports::exports_of;
-use crate::imports::{imported_part, is_imported, push_imports};
+use crate::import_list::ImportList;
+use crate::imports::{imported_module, push_imports};
 use crate::kept::Kept;
 use crate::names::name_of;
+use crate::pred_list::PredList;
 use crate::spot::Written;
 use crate::written::written_in;
 use cp_code::PredNames;
@@ -33,11 +34,12 @@ pub(crate) fn clause_cause(
     kept: &Kept,
     clause: &ReadClause,
 ) -> Result<Option<Why>, AllocError>
+    requires { all.now ≡ map shown parts.now }
     ensures { IfOk result (λ why. why ≡ clause_by parts.now before.now file.now all.now kept.now clause.now) }
 {
     if is_declaration(&clause.term) {
         let declared = said(alloc, clause)?;
-        declaration_cause(alloc, parts, before, file, kept, clause, &declared)
+        declaration_cause(alloc, parts, before, file, all, kept, clause, &declared)
     } else {
         rule_cause(alloc, all, kept, clause)
     }
@@ -48,10 +50,12 @@ fn declaration_cause(
     parts: &[ModulePart],
     before: &[ModulePart],
     file: &[u8],
+    all: &[ModuleExports],
     kept: &Kept,
     clause: &ReadClause,
     declared: &Option<Declaration>,
 ) -> Result<Option<Why>, AllocError>
+    requires { all.now ≡ map shown parts.now }
     ensures { IfOk result (λ why. why ≡ declaration_by parts.now before.now file.now kept.now clause.now declared.now) }
 {
     match declared {
@@ -66,11 +70,11 @@ fn declaration_cause(
                 file: name,
                 imports,
             },
-        ) => use_cause(alloc, parts, file, kept, clause, name, imports),
+        ) => use_cause(alloc, parts, file, all, kept, clause, name, imports),
         Some(Declaration::UseActiveModule { name, preds: _ }) => {
-            active_cause(alloc, parts, file, kept, clause, name)
+            active_cause(alloc, parts, file, all, kept, clause, name)
         }
-        Some(Declaration::Shared { suspends: _, preds }) => Ok(shared_cause(kept, preds)),
+        Some(Declaration::Shared { suspends: _, preds }) => shared_cause(kept, preds),
         _ => Ok(None),
     }
 }
@@ -89,18 +93,19 @@ fn use_cause(
     alloc: Global,
     parts: &[ModulePart],
     file: &[u8],
+    all: &[ModuleExports],
     kept: &Kept,
     clause: &ReadClause,
     name: &Name,
     imports: &Option<Indicators>,
 ) -> Result<Option<Why>, AllocError>
+    requires { all.now ≡ map shown parts.now }
     ensures { IfOk result (λ why. why ≡ unless (lacks (file_named parts.now (imported_file file.now name.now)) imports.now) Why.NotExported (import_by parts.now file.now kept.now clause.now)) }
 {
-    let part = imported_part(alloc, parts, file, name)?;
-    if lacks(alloc, part, imports)? {
+    if lacks_named(alloc, parts, all, file, name, imports)? {
         Ok(Some(Why::NotExported))
     } else {
-        import_cause(alloc, parts, file, kept, clause)
+        import_cause(alloc, parts, file, all, kept, clause)
     }
 }
 
@@ -108,16 +113,18 @@ fn active_cause(
     alloc: Global,
     parts: &[ModulePart],
     file: &[u8],
+    all: &[ModuleExports],
     kept: &Kept,
     clause: &ReadClause,
     name: &Name,
 ) -> Result<Option<Why>, AllocError>
+    requires { all.now ≡ map shown parts.now }
     ensures { IfOk result (λ why. why ≡ unless (is_taken parts.now name.now) Why.DuplicateModule (import_by parts.now file.now kept.now clause.now)) }
 {
     if is_taken(alloc, parts, name)? {
         Ok(Some(Why::DuplicateModule))
     } else {
-        import_cause(alloc, parts, file, kept, clause)
+        import_cause(alloc, parts, file, all, kept, clause)
     }
 }
 
@@ -143,44 +150,61 @@ fn is_module_of(alloc: Global, parts: &[ModulePart], name: &Name) -> Result<bool
     Ok(false)
 }
 
-/// Whether a file is imported from that does not export all these.
-fn lacks(
+/// Whether a file imports from a module under a name that does not export all these.
+fn lacks_named(
     alloc: Global,
-    part: Option<&ModulePart>,
+    parts: &[ModulePart],
+    all: &[ModuleExports],
+    file: &[u8],
+    name: &Name,
     imports: &Option<Indicators>,
 ) -> Result<bool, AllocError>
-    ensures { IfOk result (λ lacks_one. lacks_one ≡ lacks (option_copied part.entry) imports.now) }
+    requires { all.now ≡ map shown parts.now }
+    ensures { IfOk result (λ found. found ≡ lacks (file_named parts.now (imported_file file.now name.now)) imports.now) }
 {
-    let Some(part) = part else {
+    let of = imported_module(alloc, parts, all, file, name)?;
+    let found = lacks(of, imports)?;
+    Ok(found)
+}
+
+/// Whether a module is imported from that does not export all these.
+fn lacks(of: Option<&ModuleExports>, imports: &Option<Indicators>) -> Result<bool, AllocError>
+    ensures { IfOk result (λ lacks_one. lacks_one ≡ lacks_of (option_copied of.entry) imports.now) }
+{
+    let Some(of) = of else {
         return Ok(false);
     };
     match imports {
-        Some(preds) => {
-            let exports = exports_of(alloc, part)?;
-            Ok(are_not_all_in(exports.as_slice(), preds.as_slice()))
-        }
+        Some(preds) => are_not_all_in(&of.exports, preds.as_slice()),
         None => Ok(false),
     }
 }
 
-fn are_not_all_in(exports: &[Indicator], preds: &[Indicator]) -> bool
-    ensures { result ≡ list_any (λ p. not (is_in exports.now p)) preds.now }
+fn are_not_all_in(exports: &PredList, preds: &[Indicator]) -> Result<bool, AllocError>
+    ensures { IfOk result (λ found. found ≡ list_any (λ p. not (is_in exports.now p)) preds.now) }
 {
-    preds.iter().any(|pred| !is_in(exports, pred))
+    for pred in preds {
+        if !exports.has(pred)? {
+            return Ok(true);
+        }
+    }
+    Ok(false)
 }
 
 fn import_cause(
     alloc: Global,
     parts: &[ModulePart],
     file: &[u8],
+    all: &[ModuleExports],
     kept: &Kept,
     clause: &ReadClause,
 ) -> Result<Option<Why>, AllocError>
+    requires { all.now ≡ map shown parts.now }
     ensures { IfOk result (λ why. why ≡ import_by parts.now file.now kept.now clause.now) }
 {
     let mut imports = PredNames::new(alloc);
-    push_imports(alloc, &mut imports, parts, file, clause)?;
-    if clash(kept.earlier.as_slice(), imports.as_slice()) {
+    push_imports(alloc, &mut imports, parts, all, file, clause)?;
+    if clash(&kept.earlier, imports.as_slice())? {
         Ok(Some(Why::ImportClash))
     } else {
         Ok(None)
@@ -188,38 +212,27 @@ fn import_cause(
 }
 
 /// Whether one of these imports has the name and arity of an earlier one from another module.
-fn clash(earlier: &[PredName], imports: &[PredName]) -> bool
-    ensures { result ≡ clash earlier.now imports.now }
+fn clash(earlier: &ImportList, imports: &[PredName]) -> Result<bool, AllocError>
+    ensures { IfOk result (λ found. found ≡ clash earlier.now imports.now) }
 {
-    imports
-        .iter()
-        .any(|import| clashes_with_one(import, earlier))
-}
-
-fn clashes_with_one(import: &PredName, earlier: &[PredName]) -> bool
-    ensures { result ≡ list_any (clashes_with import.now) earlier.now }
-{
-    earlier.iter().any(|other| clashes_with(import, other))
-}
-
-fn clashes_with(import: &PredName, other: &PredName) -> bool
-    ensures { result ≡ clashes_with import.now other.now }
-{
-    import.name.bytes() == other.name.bytes()
-        && import.arity == other.arity
-        && import.module.bytes() != other.module.bytes()
+    for import in imports {
+        if earlier.clashes(import)? {
+            return Ok(true);
+        }
+    }
+    Ok(false)
 }
 
 /// A program has at most 32 shared predicates, and none of them is imported.
-fn shared_cause(kept: &Kept, preds: &Indicators) -> Option<Why>
-    ensures { result ≡ shared_by kept.now preds.now }
+fn shared_cause(kept: &Kept, preds: &Indicators) -> Result<Option<Why>, AllocError>
+    ensures { IfOk result (λ why. why ≡ shared_by kept.now preds.now) }
 {
     if are_too_many(kept.shared, preds.len()) {
-        Some(Why::TooManyShared)
-    } else if are_imported(kept.imported.as_slice(), preds.as_slice()) {
-        Some(Why::ClauseOfImported)
+        Ok(Some(Why::TooManyShared))
+    } else if are_imported(&kept.imported, preds.as_slice())? {
+        Ok(Some(Why::ClauseOfImported))
     } else {
-        None
+        Ok(None)
     }
 }
 
@@ -229,10 +242,15 @@ fn are_too_many(shared: u64, more: u32) -> bool
     shared > 32 || shared + u64::from(more) > 32
 }
 
-fn are_imported(imports: &[PredName], preds: &[Indicator]) -> bool
-    ensures { result ≡ list_any (is_imported imports.now) preds.now }
+fn are_imported(imports: &ImportList, preds: &[Indicator]) -> Result<bool, AllocError>
+    ensures { IfOk result (λ found. found ≡ list_any (is_imported imports.now) preds.now) }
 {
-    preds.iter().any(|pred| is_imported(imports, pred))
+    for pred in preds {
+        if imports.has(pred)? {
+            return Ok(true);
+        }
+    }
+    Ok(false)
 }
 
 /// A program has at most 65,536 clauses.
@@ -257,19 +275,19 @@ fn head_cause(kept: &Kept, clause: &ReadClause) -> Result<Option<Why>, AllocErro
     ensures { IfOk result (λ why. why ≡ unless (is_imported_by kept.now (pred_of clause.now)) Why.ClauseOfImported None) }
 {
     let head = pred_of(clause)?;
-    if is_imported_head(kept, &head) {
+    if is_imported_head(kept, &head)? {
         Ok(Some(Why::ClauseOfImported))
     } else {
         Ok(None)
     }
 }
 
-fn is_imported_head(kept: &Kept, head: &Option<Indicator>) -> bool
-    ensures { result ≡ is_imported_by kept.now head.now }
+fn is_imported_head(kept: &Kept, head: &Option<Indicator>) -> Result<bool, AllocError>
+    ensures { IfOk result (λ found. found ≡ is_imported_by kept.now head.now) }
 {
     match head {
-        Some(pred) => is_imported(kept.imported.as_slice(), pred),
-        None => false,
+        Some(pred) => kept.imported.has(pred),
+        None => Ok(false),
     }
 }
 
@@ -283,11 +301,20 @@ fn is_unexported(
     ensures { IfOk result (λ found. found ≡ is_unexported_by all.now kept.now cells.now) }
 {
     let found = written_in(alloc, &kept.own, cells)?;
-    Ok(are_unexported(all, kept.active.as_slice(), found.as_slice()))
+    are_unexported(all, kept.active.as_slice(), found.as_slice())
 }
 
-fn are_unexported(all: &[ModuleExports], active: &[PredName], goals: &[Written]) -> bool
-    ensures { result ≡ list_any (λ g. not (is_exported_in all.now active.now g)) goals.now }
+fn are_unexported(
+    all: &[ModuleExports],
+    active: &[PredName],
+    goals: &[Written],
+) -> Result<bool, AllocError>
+    ensures { IfOk result (λ found. found ≡ list_any (λ g. not (is_exported_in all.now active.now g)) goals.now) }
 {
-    goals.iter().any(|goal| !is_exported(all, active, goal))
+    for goal in goals {
+        if !is_exported(all, active, goal)? {
+            return Ok(true);
+        }
+    }
+    Ok(false)
 }

@@ -1,4 +1,4 @@
-ghost use Rattle.std.specs.Prelude.{◌≡◌, ◌+◌, [], map, length, None, IfOk, OnOk};
+ghost use Rattle.std.specs.Prelude.{◌≡◌, ◌+◌, [], map, length, None, IfOk};
 ghost use Rattle.std.specs.Option.{option_map};
 ghost use Rattle.cp_declaration.specs.Declarations.{is_declaration};
 ghost use Rattle.cp_module.specs.Causes.{cause_on, least};
@@ -9,6 +9,7 @@ ghost use Rattle.cp_link.specs.Kept.{Keeps, at, counted, passed, clause_by, faul
 
 use crate::clauses::{count_rules, shared_in, shares};
 use crate::exported::{ModuleExports, all_exports};
+use crate::import_list::ImportList;
 use crate::imports::{active_in, imports_in, push_imports};
 use crate::kept::Kept;
 use crate::names::name_of;
@@ -66,13 +67,14 @@ fn part_cause(
     requires { all.now ≡ map shown parts.now }
     ensures { IfOk result (λ cause. cause ≡ part_cause parts.now before.now part.now) }
 {
-    let mut kept = begin(alloc, parts, before, part)?;
+    let mut kept = begin(alloc, parts, before, all, part)?;
     let mut cause: Option<Cause> = None;
     let clauses = part.clauses().as_slice();
     for clause in clauses {
         let found = cause_behind(alloc, parts, before, part, all, &kept, clause, cause)?;
         cause = found;
-        pass(alloc, parts, part, &mut kept, clause)?;
+        let behind = pass(alloc, parts, all, part, kept, clause)?;
+        kept = behind;
     }
     Ok(cause)
 }
@@ -88,6 +90,7 @@ fn cause_behind(
     clause: &ReadClause,
     cause: Option<Cause>,
 ) -> Result<Option<Cause>, AllocError>
+    requires { all.now ≡ map shown parts.now }
     ensures { IfOk result (λ found. found ≡ soonest cause (least (cause_on clause.now.line (clause_by parts.now before.now part.now.file all.now kept.now clause.now)))) }
 {
     let why = clause_cause(alloc, parts, before, part.file(), all, kept, clause)?;
@@ -99,13 +102,16 @@ fn begin(
     alloc: Global,
     parts: &[ModulePart],
     before: &[ModulePart],
+    all: &[ModuleExports],
     part: &ModulePart,
 ) -> Result<Kept, AllocError>
+    requires { all.now ≡ map shown parts.now }
     ensures { IfOk result (λ kept. Keeps kept (at parts.now before.now part.now [])) }
 {
     let clauses = part.clauses().as_slice();
     let own = name_of(alloc, part)?;
-    let imported = imports_in(alloc, parts, part.file(), clauses)?;
+    let imports = imports_in(alloc, parts, all, part.file(), clauses)?;
+    let imported = ImportList::new(alloc).with_all(imports)?;
     let active = active_in(alloc, clauses)?;
     let rules = rules_of(before);
     let shared = shared_of(alloc, before)?;
@@ -115,7 +121,7 @@ fn begin(
         active,
         rules,
         shared,
-        earlier: PredNames::new(alloc),
+        earlier: ImportList::new(alloc),
     })
 }
 
@@ -142,21 +148,41 @@ fn shared_of(alloc: Global, parts: &[ModulePart]) -> Result<u64, AllocError>
     Ok(shared)
 }
 
-/// Goes past a clause.
+/// What is kept behind a clause.
 fn pass(
     alloc: Global,
     parts: &[ModulePart],
+    all: &[ModuleExports],
     part: &ModulePart,
-    kept: &mut Kept,
+    kept: Kept,
     clause: &ReadClause,
-) -> Result<(), AllocError>
-    ensures { OnOk result (kept.new ≡ passed parts.now part.now.file clause.now kept.old) }
+) -> Result<Kept, AllocError>
+    requires { all.now ≡ map shown parts.now }
+    ensures { IfOk result (λ behind. behind ≡ passed parts.now part.now.file clause.now kept) }
 {
+    let Kept {
+        own,
+        imported,
+        active,
+        rules,
+        shared,
+        earlier,
+    } = kept;
     let preds = shares(alloc, clause)?;
-    push_imports(alloc, &mut kept.earlier, parts, part.file(), clause)?;
-    kept.shared = kept.shared.saturating_add(u64::from(preds.len()));
-    if !is_declaration(&clause.term) {
-        kept.rules = kept.rules.saturating_add(1);
-    }
-    Ok(())
+    let mut imports = PredNames::new(alloc);
+    push_imports(alloc, &mut imports, parts, all, part.file(), clause)?;
+    let earlier = earlier.with_all(imports)?;
+    let rules = if is_declaration(&clause.term) {
+        rules
+    } else {
+        rules.saturating_add(1)
+    };
+    Ok(Kept {
+        own,
+        imported,
+        active,
+        rules,
+        shared: shared.saturating_add(u64::from(preds.len())),
+        earlier,
+    })
 }
