@@ -1,7 +1,7 @@
 -- What the index of a file says of a predicate is what its clauses say.
 use Rattle.std.proofs.Common.{◌≡◌, ℕ, zero, suc, ◌+◌, ◌<◌, ◌≤◌, get_or, refl, sym, ap, ◌∙◌, Bool, true, false, Some, None, Option, List, [], ◌∷◌, ◌++◌, length, take, map, slice_get, append_assoc, arith}
-use Rattle.std.specs.Prelude.{◌||◌, cond, filter, if◌then◌else◌, MatchOption}
-use Rattle.std.specs.List.{filter_map, list_any, flat_map}
+use Rattle.std.specs.Prelude.{◌||◌, cond, MatchOption}
+use Rattle.std.specs.List.{filter_map}
 use Rattle.std.proofs.lemmas.List.{length-append, take_more, map-append}
 use Rattle.std.proofs.lemmas.List.Elements.{filter_map-append}
 use Rattle.std.proofs.lemmas.Option.{slice_get-get_or}
@@ -12,8 +12,8 @@ use Rattle.cp_declaration.specs.declared.declaration.Declaration.TheVariants as 
 use Rattle.cp_declaration.specs.declared.indicator.Indicator.{Indicator}
 use Rattle.cp_declaration.specs.Declarations.{declaration, is_declaration}
 use Rattle.cp_code.specs.declared.clause.Clause.{Clause}
-use Rattle.cp_module.specs.Causes.{same, is_in, is_option, is_clause_of, is_shared, shares, shares_by, clauses_of, pred_of}
-use Rattle.cp_link.specs.Modules.{one, said, shared_in, mentions, distinct, own_preds}
+use Rattle.cp_module.specs.Causes.{same, is_in, is_clause_of, is_shared, shares, shares_by, clauses_of, pred_of}
+use Rattle.cp_link.specs.Modules.{one, said, shared_in, distinct, own_preds}
 use Rattle.cp_link.specs.Linked.{either_marks, marks_by, marks_in}
 use Rattle.cp_assemble.proofs.StepLaws.{as_one}
 use Rattle.cp_assemble.specs.declared.marks.Marking.{Marking}
@@ -159,11 +159,8 @@ filter_mapped_one : {X Y : Type 0} (f : X → Option Y) (x : X) (xs : List X) (o
 filter_mapped_one f x xs None e = cc
 filter_mapped_one f x xs (Some y) e = cc
 
-marks_found : (cs : List ReadClause) (i : Indicator) → marks_among (markings_in cs) i ≡ marks_in cs i
+pub marks_found : (cs : List ReadClause) (i : Indicator) → marks_among (markings_in cs) i ≡ marks_in cs i
 marks_found [] i = refl
 marks_found (c ∷ cs) i =
     ap (λ ms. marks_among ms i) (filter_mapped_one (λ d. marking_by (said d)) c cs (marking_by (said c)) refl)
     ∙ marked (said c) i (markings_in cs) (marks_in cs i) (marks_found cs i)
-
-pub marks_of_file : (cs : List ReadClause) (i : Indicator) (ms : List Marking) → ms ≡ markings_in cs → marks_among ms i ≡ marks_in cs i
-marks_of_file cs i ms e = ap (λ xs. marks_among xs i) e ∙ marks_found cs i

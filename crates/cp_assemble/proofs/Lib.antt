@@ -4,6 +4,7 @@ mod IndexLaws
 mod KeyLaws
 mod LimitLaws
 mod MarkLaws
+mod MarkTableLaws
 mod ObjectLaws
 mod ProgramLaws
 mod StepLaws

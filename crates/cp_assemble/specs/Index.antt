@@ -1,5 +1,5 @@
 -- What a file says of its predicates, as tables that are asked by their names.
-use Rattle.std.specs.Prelude.{◌≡◌, ℕ, ◌+◌, Bool, ◌&&◌, nat_eq, cond, if◌then◌else◌, List, [], ◌∷◌, length, Option, Some, None}
+use Rattle.std.specs.Prelude.{ℕ, ◌+◌, Bool, ◌&&◌, nat_eq, cond, if◌then◌else◌, List, [], ◌∷◌, length, Option, Some, None}
 use Rattle.std.specs.List.{filter_map}
 use Rattle.std.specs.Str.{bytes_eq}
 use Rattle.cp_read.specs.declared.clause.ReadClause.{ReadClause}
@@ -58,3 +58,12 @@ is_marking_of i m = bytes_eq m.name i.name && nat_eq (length m.marks) i.arity
 abbrev pub marks_among : List Marking → Indicator → List Bool
 marks_among [] i = []
 marks_among (m ∷ ms) i = cond (is_marking_of i m) (either_marks m.marks (marks_among ms i)) (marks_among ms i)
+
+-- the marks of a predicate in a table of them, and none where it has no row
+abbrev pub marks_of : List (Indicator × List Bool) → Indicator → List Bool
+marks_of [] p = []
+marks_of (r ∷ rows) p = if same p r.0 then r.1 else marks_of rows p
+
+abbrev pub marks_or : Option (List Bool) → List Bool
+marks_or None = []
+marks_or (Some marks) = marks

@@ -1,7 +1,8 @@
 ghost use Rattle.std.specs.Prelude.{IfOk};
 ghost use Rattle.cp_assemble.specs.Indexed.{IsIndexOf};
 
-use crate::marks::{Markings, markings_in};
+use crate::mark_table::MarkTable;
+use crate::marks::markings_in;
 use crate::places::Places;
 use cp_declaration::Indicators;
 use cp_link::shared_in;
@@ -15,7 +16,7 @@ pub(crate) struct FileIndex {
     pub(crate) places: Places,
     /// The predicates that are declared to be shared, of which there are few.
     pub(crate) shared: Indicators,
-    pub(crate) markings: Markings,
+    pub(crate) marks: MarkTable,
 }
 
 impl FileIndex {
@@ -26,10 +27,11 @@ impl FileIndex {
         let places = Places::of(alloc, clauses)?;
         let shared = shared_in(alloc, clauses)?;
         let markings = markings_in(alloc, clauses)?;
+        let marks = MarkTable::of(alloc, markings.as_slice())?;
         Ok(FileIndex {
             places,
             shared,
-            markings,
+            marks,
         })
     }
 }

@@ -7,6 +7,7 @@ mod imports;
 mod index;
 mod kinds;
 mod linking;
+mod mark_table;
 mod marks;
 mod modules;
 mod objects;

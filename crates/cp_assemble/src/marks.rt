@@ -1,10 +1,10 @@
-ghost use Rattle.std.specs.Prelude.{◌≡◌, ◌++◌, cond, IfOk, OnOk};
+ghost use Rattle.std.specs.Prelude.{◌≡◌, ◌++◌, IfOk, OnOk};
 ghost use Rattle.cp_link.specs.Modules.{one, said};
 ghost use Rattle.cp_link.specs.Linked.{either_marks};
-ghost use Rattle.cp_assemble.specs.Index.{marking_by, markings_in, is_marking_of, marks_among};
+ghost use Rattle.cp_assemble.specs.Index.{marking_by, markings_in};
 
 use cp_code::GoalMarks;
-use cp_declaration::{Declaration, Indicator};
+use cp_declaration::Declaration;
 use cp_link::said;
 use cp_list::ListOf;
 use cp_read::ReadClause;
@@ -14,8 +14,8 @@ use std::alloc::{AllocError, Global};
 /// A `meta_predicate` declaration: the predicate's name, and which of its arguments it marks.
 #[derive(Debug, Drop)]
 pub(crate) struct Marking {
-    name: Name,
-    marks: GoalMarks,
+    pub(crate) name: Name,
+    pub(crate) marks: GoalMarks,
 }
 
 pub(crate) type Markings = ListOf<Marking>;
@@ -40,42 +40,13 @@ fn push_marking(alloc: Global, all: &mut Markings, clause: &ReadClause) -> Resul
     }
 }
 
-/// Which arguments of a predicate these declarations mark, all of them together.
-pub(crate) fn marks_among(
-    alloc: Global,
-    markings: &[Marking],
-    pred: &Indicator,
-) -> Result<GoalMarks, AllocError>
-    ensures { IfOk result (λ marks. marks ≡ marks_among markings.now pred.now) }
-{
-    let mut all = GoalMarks::new(alloc);
-    let mut at = markings.len();
-    'markings: while at > 0 {
-        at -= 1;
-        let both = with_marking(alloc, &markings[at], pred, all)?;
-        all = both;
-    }
-    Ok(all)
-}
-
-fn with_marking(
-    alloc: Global,
-    marking: &Marking,
-    pred: &Indicator,
-    others: GoalMarks,
-) -> Result<GoalMarks, AllocError>
-    ensures { IfOk result (λ both. both ≡ cond (is_marking_of pred.now marking.now) (either_marks marking.now.marks others) others) }
-{
-    if marking.name.bytes() == pred.name.bytes() && marking.marks.len() == u32::from(pred.arity) {
-        either_marks(alloc, marking.marks.as_slice(), others.as_slice())
-    } else {
-        Ok(others)
-    }
-}
-
 #[tactic(auto, using(crate::proofs::MarkLaws::either_none))]
 /// The marks of the same arguments together, of which one is enough.
-fn either_marks(alloc: Global, marks: &[bool], others: &[bool]) -> Result<GoalMarks, AllocError>
+pub(crate) fn either_marks(
+    alloc: Global,
+    marks: &[bool],
+    others: &[bool],
+) -> Result<GoalMarks, AllocError>
     ensures { IfOk result (λ both. both ≡ either_marks marks.now others.now) }
 {
     let mut both = GoalMarks::new(alloc);
@@ -95,7 +66,7 @@ fn either_marks(alloc: Global, marks: &[bool], others: &[bool]) -> Result<GoalMa
     Ok(both)
 }
 
-fn push_marks(all: &mut GoalMarks, marks: &[bool]) -> Result<(), AllocError>
+pub(crate) fn push_marks(all: &mut GoalMarks, marks: &[bool]) -> Result<(), AllocError>
     ensures { OnOk result (all.new ≡ all.old ++ marks.now) }
 {
     for mark in marks {

@@ -7,7 +7,6 @@ ghost use Rattle.cp_assemble.specs.Indexed.{IsIndexOf};
 
 use crate::index::FileIndex;
 use crate::kinds::kind_in;
-use crate::marks::marks_among;
 use crate::objects::Objects;
 use cp_code::{Clauses, GoalMarks, PredInfo, Preds};
 use cp_declaration::Indicator;
@@ -98,6 +97,6 @@ fn marks_in(
     ensures { IfOk result (λ marks. marks ≡ marks_in part.now.clauses pred.now) }
 {
     let _part = part;
-    let marks = marks_among(alloc, index.markings.as_slice(), pred)?;
+    let marks = index.marks.find(alloc, pred)?;
     Ok(marks)
 }

@@ -1,6 +1,6 @@
 -- Lists without repetitions, and one item more behind them.
 use Rattle.std.proofs.Common.{◌≡◌, refl, sym, ap, ◌∙◌, subst, Bool, true, false, List, [], ◌∷◌, ◌++◌, append-nil}
-use Rattle.std.specs.Prelude.{not, ◌&&◌, ◌||◌, nat_eq, cond, filter}
+use Rattle.std.specs.Prelude.{not, ◌||◌, nat_eq, cond, filter}
 use Rattle.std.specs.List.{list_any}
 use Rattle.std.specs.Str.{bytes_eq}
 use Rattle.std.proofs.lemmas.Bool.{and_parts, and_from}

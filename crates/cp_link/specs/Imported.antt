@@ -1,5 +1,5 @@
 -- What the table of a list of imports has to do with the list.
-use Rattle.std.specs.Prelude.{◌≡◌, ℕ, List, map, is_some}
+use Rattle.std.specs.Prelude.{◌≡◌, List, map, is_some}
 use Rattle.std.specs.List.{list_any}
 use Rattle.cp_term.specs.declared.pred_name.PredName.{PredName}
 use Rattle.cp_declaration.specs.declared.indicator.Indicator.{Indicator}

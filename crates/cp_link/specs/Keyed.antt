@@ -1,5 +1,5 @@
 -- Predicates by their keys, and what is kept of the modules that they are imported from.
-use Rattle.std.specs.Prelude.{ℕ, Bool, true, false, not, ◌||◌, List, [], ◌∷◌, map, if◌then◌else◌, Option, Some, None}
+use Rattle.std.specs.Prelude.{ℕ, Bool, false, not, ◌||◌, List, [], ◌∷◌, if◌then◌else◌, Option, Some, None}
 use Rattle.std.specs.Str.{bytes_eq}
 use Rattle.cp_term.specs.declared.pred_name.PredName.{PredName}
 use Rattle.cp_declaration.specs.declared.indicator.Indicator.{Indicator}
