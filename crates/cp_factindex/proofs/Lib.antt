@@ -1,0 +1,11 @@
+pub mod Collecting
+pub mod Committing
+pub mod Effects
+pub mod Looking
+pub mod Numbering
+pub mod Opening
+pub mod Parking
+pub mod Placing
+pub mod Purging
+pub mod Readying
+pub mod Wakened

@@ -1,0 +1,8 @@
+pub mod Contents
+pub mod Effect
+pub mod Inside
+pub mod Plan
+pub mod Purged
+pub mod Steps
+pub mod Waiting
+pub mod Woken
