@@ -1,23 +1,18 @@
 -- Making the prepared call keeps what holds of the fields.
-use Rattle.std.proofs.Common.{◌≡◌, ℕ, ◌+◌, ◌-◌, ◌^◌, min, List, [], ◌∷◌, ◌++◌, refl, sym, ◌∙◌, ap, subst, true, false, Bool, cond, arith, Option, Some, None, length}
-use Rattle.std.specs.Prelude.{Vec, ℤ, sum_by, count_by, MatchOption}
-use Rattle.std.specs.declared.alloc.Global.{Global}
+use Rattle.std.proofs.Common.{◌≡◌, ℕ, ◌+◌, ◌-◌, ◌^◌, min, List, [], ◌∷◌, ◌++◌, sym, ◌∙◌, ap, subst, cond, arith, Option, Some, None}
+use Rattle.std.specs.Prelude.{count_by, MatchOption}
 use Rattle.std.proofs.lemmas.List.Sums.{sum_by-append}
 use Rattle.cp_term.specs.declared.cell.Cell.{Cell}
 use Rattle.cp_list.specs.ReservedList.{ReservedList}
-use Rattle.cp_call.specs.declared.call.ObjectKind.{ObjectKind}
 use Rattle.cp_call.specs.declared.call.Entry.{Entry}
-use Rattle.cp_call.specs.declared.outcome.FactRow.{FactRow}
-use Rattle.cp_call.specs.declared.outcome.ParkedRow.{ParkedRow}
 use Rattle.cp_call.specs.Object.{State, step}
-use Rattle.cp_call.specs.History.{MayFollow, Legal, Calm, state_after, is_add_back, posts_of, cells_of, cells_of_call, cells_of_reply}
+use Rattle.cp_call.specs.History.{MayFollow, Calm, state_after, is_add_back, posts_of, cells_of, cells_of_call, cells_of_reply}
 use Rattle.cp_call.proofs.Growing.{state_after-push, Legal-push}
 use Rattle.cp_call.proofs.Calmness.{Calm-step}
 use Rattle.cp_factindex.specs.declared.plan.Plan.{Plan}
 use Rattle.cp_factindex.specs.declared.pred.Pred.TheInside.{Inside}
 use Rattle.cp_factindex.specs.declared.contents.Contents.{Contents}
 use Rattle.cp_factindex.specs.Contents.{state_in, changed}
-use Rattle.cp_factindex.specs.Plan.{IsRightPlan}
 use Rattle.cp_factindex.specs.Inside.{IsStore, IsReady, inside_state}
 
 -- the entry of a plan

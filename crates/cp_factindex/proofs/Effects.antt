@@ -1,17 +1,16 @@
 -- What a prepared call is to do is the step of the call.
-use Rattle.std.proofs.Common.{◌≡◌, ℕ, ◌==◌, Bool, true, false, not, ◌||◌, cond, List, [], ◌∷◌, ◌++◌, length, filter, Option, Some, None, refl, sym, ◌∙◌, ap, subst, arith}
-use Rattle.std.specs.Prelude.{Vec, ℤ, pos, ◌+ℤ◌, ◌-ℤ◌, map}
+use Rattle.std.proofs.Common.{◌≡◌, ℕ, ◌==◌, Bool, true, false, not, ◌||◌, cond, List, [], ◌∷◌, ◌++◌, length, filter, Option, Some, refl, sym, ◌∙◌, ap, subst, arith}
+use Rattle.std.specs.Prelude.{Vec, ℤ, pos, ◌+ℤ◌, ◌-ℤ◌}
 use Rattle.std.specs.declared.alloc.Global.{Global}
 use Rattle.std.proofs.lemmas.Bool.Decides.{Decides-eqb}
 use Rattle.std.specs.Ordering.{int_eq}
 use Rattle.std.specs.List.{list_any}
 use Rattle.std.proofs.lemmas.Int.{ints}
 use Rattle.cp_term.specs.declared.cell.Cell.{Cell}
-use Rattle.cp_term.specs.Unification.{unifiable_apart}
 use Rattle.cp_call.specs.declared.call.Reply.TheVariants as reply
 use Rattle.cp_call.specs.declared.outcome.FactRow.{FactRow}
 use Rattle.cp_call.specs.declared.outcome.ParkedRow.{ParkedRow}
-use Rattle.cp_call.specs.Object.{State, adds_front, adds_back, replaces, purges, removes, finds_nothing, closes, leaves, first_seen, without, is_parked, callers_of, sees}
+use Rattle.cp_call.specs.Object.{adds_front, adds_back, replaces, purges, removes, finds_nothing, leaves, first_seen, without, is_parked, sees}
 use Rattle.cp_counted.specs.declared.key.Key.{Key}
 use Rattle.cp_counted.specs.Keys.{term_key}
 use Rattle.cp_keyed.specs.Index.{IndexView, IsRight, AreRight, is_among, row_at}
@@ -197,9 +196,9 @@ module _ (c : Contents) (fresh : IsFresh c) where
         change = record { facts = facts.Show; parked = parked.RemoveAll w.spots; lowest = c.lowest; highest = p; is_open = c.is_open };
       })
   goes_back_at v fact copy w p q ep ec eq h e = subst (λ (x : ℤ). IsEffect (record c { facts = v }) (adds_back (state_in c) fact) (record {
-        reply = reply.Added x w.callers;
-        change = record { facts = facts.Show; parked = parked.RemoveAll w.spots; lowest = c.lowest; highest = x; is_open = c.is_open };
-      })) (sym ep)
+    reply = reply.Added x w.callers;
+    change = record { facts = facts.Show; parked = parked.RemoveAll w.spots; lowest = c.lowest; highest = x; is_open = c.is_open };
+  })) (sym ep)
       (goes_back_is c fresh v fact w (subst (λ (f : FactRow). IsWokenBy f c.waiting.rows w) (λ i. record { place = ep i; fact = ec i }) h) (e ∙ (λ i. c.facts.rows ++ ((eq ∙ ep) i, ec i) ∷ [])))
 
   pub goes_front_at : (v : IndexView (List Cell)) (fact copy : List Cell) (w : Woken) (p q : ℤ) → p ≡ (c.lowest -ℤ pos 1) → copy ≡ fact → q ≡ p
@@ -209,9 +208,9 @@ module _ (c : Contents) (fresh : IsFresh c) where
         change = record { facts = facts.Show; parked = parked.RemoveAll w.spots; lowest = p; highest = c.highest; is_open = c.is_open };
       })
   goes_front_at v fact copy w p q ep ec eq h e = subst (λ (x : ℤ). IsEffect (record c { facts = v }) (adds_front (state_in c) fact) (record {
-        reply = reply.Added x w.callers;
-        change = record { facts = facts.Show; parked = parked.RemoveAll w.spots; lowest = x; highest = c.highest; is_open = c.is_open };
-      })) (sym ep)
+    reply = reply.Added x w.callers;
+    change = record { facts = facts.Show; parked = parked.RemoveAll w.spots; lowest = x; highest = c.highest; is_open = c.is_open };
+  })) (sym ep)
       (goes_front_is c fresh v fact w (subst (λ (f : FactRow). IsWokenBy f c.waiting.rows w) (λ i. record { place = ep i; fact = ec i }) h) (e ∙ (λ i. ((eq ∙ ep) i, ec i) ∷ c.facts.rows)))
 
   pub goes_alone_at : (v : IndexView (List Cell)) (fact copy : List Cell) (w : Woken) (p q : ℤ) → p ≡ (c.highest +ℤ pos 1) → copy ≡ fact → q ≡ p
@@ -221,9 +220,9 @@ module _ (c : Contents) (fresh : IsFresh c) where
         change = record { facts = facts.Set v; parked = parked.RemoveAll w.spots; lowest = c.lowest; highest = p; is_open = c.is_open };
       })
   goes_alone_at v fact copy w p q ep ec eq h e = subst (λ (x : ℤ). IsEffect c (replaces (state_in c) fact) (record {
-        reply = reply.Replaced x w.callers;
-        change = record { facts = facts.Set v; parked = parked.RemoveAll w.spots; lowest = c.lowest; highest = x; is_open = c.is_open };
-      })) (sym ep)
+    reply = reply.Replaced x w.callers;
+    change = record { facts = facts.Set v; parked = parked.RemoveAll w.spots; lowest = c.lowest; highest = x; is_open = c.is_open };
+  })) (sym ep)
       (goes_alone_is c fresh v fact w (subst (λ (f : FactRow). IsWokenBy f c.waiting.rows w) (λ i. record { place = ep i; fact = ec i }) h) (e ∙ (λ i. ((eq ∙ ep) i, ec i) ∷ [])))
 
   -- the fact that is seen, taken

@@ -1,11 +1,11 @@
 -- A look that tries only the facts whose key agrees.
 use Rattle.std.proofs.Common.{◌≡◌, ◌≤◌, ℕ, ◌+◌, Bool, true, false, ◌&&◌, cond, List, [], ◌∷◌, Option, Some, None, refl, sym, ◌∙◌, ap, subst, arith}
-use Rattle.std.specs.Prelude.{ℤ, map, filter}
+use Rattle.std.specs.Prelude.{ℤ}
 use Rattle.std.proofs.lemmas.Bool.{false≢true}
 use Rattle.cp_term.specs.declared.cell.Cell.{Cell}
 use Rattle.cp_term.specs.Unification.{unifiable_apart}
 use Rattle.cp_call.specs.declared.outcome.FactRow.{FactRow}
-use Rattle.cp_call.specs.Object.{is_above, sees, first_seen}
+use Rattle.cp_call.specs.Object.{is_above, first_seen}
 use Rattle.cp_counted.specs.Keys.{term_key, keys_agree}
 use Rattle.cp_counted.specs.Agreement.{agree_from_unifiable}
 use Rattle.cp_keyed.specs.Search.{is_after}

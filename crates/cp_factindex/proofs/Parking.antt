@@ -2,7 +2,7 @@
 use Rattle.std.proofs.Common.{◌≡◌, ℕ, ◌+◌, ◌<◌, ◌==◌, zero, suc, Bool, true, false, not, ◌||◌, cond, List, [], ◌∷◌, ◌++◌, filter, length, take, get_or, Option, Some, None, refl, sym, ◌∙◌, ap, subst, arith}
 use Rattle.std.specs.Prelude.{ℤ, int_lt, is_some}
 use Rattle.std.specs.Option.{option_flatten}
-use Rattle.std.specs.Ordering.{nat_cmp, int_cmp, int_eq, is_eq}
+use Rattle.std.specs.Ordering.{nat_cmp, int_eq, is_eq}
 use Rattle.std.specs.Cmp.{Equal-is, tied_itself, both_ways, int_cmp_total, nat_cmp_total}
 use Rattle.std.specs.BTreeMap.{BTreeMap, get, is_at}
 use Rattle.std.proofs.lemmas.Bool.{false≢true}
@@ -10,7 +10,6 @@ use Rattle.std.proofs.lemmas.Bool.Decides.{Decides-eqb}
 use Rattle.std.proofs.lemmas.Int.{ints}
 use Rattle.std.proofs.lemmas.List.{take_more}
 use Rattle.std.proofs.lemmas.Map.Lookups.{exact_unsigned}
-use Rattle.cp_call.specs.declared.outcome.ParkedRow.{ParkedRow}
 use Rattle.cp_counted.specs.declared.key.Key.{Key}
 use Rattle.cp_keyed.specs.Index.{AreAbove, AreAscending, AreRight, IndexView, IsRight, is_among, row_at, without}
 use Rattle.cp_factindex.specs.declared.waiter.Waiter.{Waiter}
@@ -134,9 +133,12 @@ module _ (old new : BTreeMap ℕ (Option ℤ)) (caller : ℕ) (number : Option �
     where
       by_test : (b : Bool) → int_eq p e.0 ≡ b → AreNumbered new (without p rows) → AreNumbered new (cond (not b) (e ∷ without p rows) (without p rows))
       by_test true s l = l
-      by_test false s l = (set_other e.1.row.caller (λ c.
-          let one : Some p ≡ Some e.0 = sym there ∙ (ap (λ (x : ℕ). number_in old x) c ∙ h.0) in
-          false≢true (sym s ∙ (ap (λ q. int_eq p q) (sym (some_is p e.0 one)) ∙ tied p))) ∙ h.0, l)
+      by_test false s l = (
+        set_other e.1.row.caller (λ c.
+            let one : Some p ≡ Some e.0 = sym there ∙ (ap (λ (x : ℕ). number_in old x) c ∙ h.0) in
+            false≢true (sym s ∙ (ap (λ q. int_eq p q) (sym (some_is p e.0 one)) ∙ tied p))) ∙ h.0,
+        l,
+      )
 
 numbered_push : (numbers : BTreeMap ℕ (Option ℤ)) (rows : List (ℤ × Waiter)) (e : ℤ × Waiter) → AreNumbered numbers rows → number_in numbers e.1.row.caller ≡ Some e.0 → AreNumbered numbers (rows ++ e ∷ [])
 numbered_push numbers [] e h n = (n, tt)
@@ -215,8 +217,13 @@ module _ (a : Inside) (holds : IsWaiting a) where
     parked = λ c n h.
         let old = holds.parked c n (sym (same c) ∙ h) in
         (old.0, ap (row_at n) er ∙ old.1, old.2);
-    ahead = (w, ew ∙ ap (λ r. r ++ (number, w) ∷ []) (sym er), ec,
-        same caller ∙ none (number_in a.numbers caller) (parked_is a.numbers caller a.rows.rows holds.numbered (holds.parked caller) ∙ off), room);
+    ahead = (
+      w,
+      ew ∙ ap (λ r. r ++ (number, w) ∷ []) (sym er),
+      ec,
+      same caller ∙ none (number_in a.numbers caller) (parked_is a.numbers caller a.rows.rows holds.numbered (holds.parked caller) ∙ off),
+      room,
+    );
   }
     where
       none : (o : Option ℤ) → is_some o ≡ false → o ≡ None
@@ -292,8 +299,8 @@ module _ (a : Inside) (holds : IsWaiting a) where
           let differ : w.row.caller ≡ other → ⊥ = λ q. false≢true (sym s ∙ (ap (is_at (nat_cmp w.row.caller)) (sym q) ∙ at_itself w.row.caller)) in
           let old = holds.parked other n (sym (set_other a.numbers numbers w.row.caller None set other differ) ∙ h) in
           let apart : int_eq p n ≡ false = by_false (int_eq p n) (λ t.
-              let one : Some w ≡ Some old.0 = sym at ∙ (ap (λ q. row_at q a.rows.rows) (same_number p n t) ∙ old.1) in
-              differ (ap (λ (x : Waiter). x.row.caller) (some_is w old.0 one) ∙ old.2)) in
+          let one : Some w ≡ Some old.0 = sym at ∙ (ap (λ q. row_at q a.rows.rows) (same_number p n t) ∙ old.1) in
+          differ (ap (λ (x : Waiter). x.row.caller) (some_is w old.0 one) ∙ old.2)) in
           (old.0, ap (row_at n) er ∙ (row_without a.rows.rows p n apart ∙ old.1), old.2)
 
   removes_none_exact : (p : ℤ) (v : IndexView Waiter) → row_at p a.rows.rows ≡ None → v.rows ≡ without p a.rows.rows → v.whole ≡ without p a.rows.rows
@@ -335,11 +342,11 @@ module _ (a : Inside) (holds : IsWaiting a) where
       same : (e : ℤ × Waiter) → number_in a.numbers e.1.row.caller ≡ Some e.0 → int_eq p e.0 ≡ (e.1.row.caller == caller)
       same e h = both_ways (int_eq p e.0) (e.1.row.caller == caller)
           (λ t.
-              let other = holds.parked e.1.row.caller p (h ∙ ap Some (sym (same_number p e.0 t))) in
-              (Decides-eqb e.1.row.caller caller).1 (sym other.2 ∙ (ap (λ (x : Waiter). x.row.caller) (some_is other.0 w (sym other.1 ∙ at)) ∙ is_its)))
+          let other = holds.parked e.1.row.caller p (h ∙ ap Some (sym (same_number p e.0 t))) in
+          (Decides-eqb e.1.row.caller caller).1 (sym other.2 ∙ (ap (λ (x : Waiter). x.row.caller) (some_is other.0 w (sym other.1 ∙ at)) ∙ is_its)))
           (λ t.
-              let one : Some p ≡ Some e.0 = sym n ∙ (ap (λ (x : ℕ). number_in a.numbers x) (sym ((Decides-eqb e.1.row.caller caller).0 t)) ∙ h) in
-              ap (λ q. int_eq p q) (sym (some_is p e.0 one)) ∙ tied p)
+          let one : Some p ≡ Some e.0 = sym n ∙ (ap (λ (x : ℕ). number_in a.numbers x) (sym ((Decides-eqb e.1.row.caller caller).0 t)) ∙ h) in
+          ap (λ q. int_eq p q) (sym (some_is p e.0 one)) ∙ tied p)
 
       lone : (es : List (ℤ × Waiter)) → AreNumbered a.numbers es → without p es ≡ filter (λ (e : ℤ × Waiter). not (e.1.row.caller == caller)) es
       lone [] h = refl

@@ -1,6 +1,6 @@
 -- The facts that a purge takes out.
 use Rattle.std.proofs.Common.{◌≡◌, ◌≤◌, ◌+◌, ℕ, suc, Bool, true, false, not, cond, List, [], ◌∷◌, length, filter, None, refl, sym, ◌∙◌, ap, subst, arith}
-use Rattle.std.specs.Prelude.{ℤ, map, count_by}
+use Rattle.std.specs.Prelude.{ℤ}
 use Rattle.cp_term.specs.declared.cell.Cell.{Cell}
 use Rattle.cp_term.specs.Unification.{unifiable_apart}
 use Rattle.cp_call.specs.declared.outcome.FactRow.{FactRow}

@@ -1,6 +1,6 @@
 -- Preparing a call keeps what holds of the fields, and is refused exactly where it is due.
-use Rattle.std.proofs.Common.{◌≡◌, ℕ, ◌+◌, ◌-◌, ◌^◌, ◌<◌, ◌≤◌, ◌==◌, min, ◌&&◌, ◌||◌, not, List, [], ◌∷◌, ◌++◌, length, refl, sym, ◌∙◌, ap, subst, true, false, Bool, cond, arith, Option, Some, None}
-use Rattle.std.specs.Prelude.{Vec, ℤ, MatchOption, Result, Ok, Err, OnOk, is_err, nat_le}
+use Rattle.std.proofs.Common.{◌≡◌, ℕ, ◌+◌, ◌-◌, ◌^◌, ◌<◌, ◌≤◌, ◌==◌, min, ◌&&◌, ◌||◌, not, List, [], ◌∷◌, length, refl, sym, ◌∙◌, ap, subst, true, false, Bool, arith, Option, Some, None}
+use Rattle.std.specs.Prelude.{ℤ, Result, Ok, Err, OnOk, is_err, nat_le}
 use Rattle.std.proofs.lemmas.Bool.{false≢true}
 use Rattle.std.specs.List.{list_any}
 use Rattle.std.proofs.lemmas.Bool.Decides.{nat_tests}
@@ -8,11 +8,10 @@ use Rattle.cp_list.specs.ReservedList.{ReservedList}
 use Rattle.cp_call.specs.declared.call.ObjectKind.{ObjectKind}
 use Rattle.cp_call.specs.declared.call.Call.{Call}
 use Rattle.cp_call.specs.declared.call.Entry.{Entry}
-use Rattle.cp_call.specs.declared.call.FullBy.TheVariants as by
 use Rattle.cp_call.specs.declared.outcome.ParkedRow.{ParkedRow}
 use Rattle.cp_call.specs.Object.{State, is_parked}
-use Rattle.cp_call.specs.History.{Legal, Calm, Limit, state_after, full, full_at, shown_count, is_leave, is_post, is_bound, posts_of, cells_of}
-use Rattle.cp_call.specs.Store.{StoreView, state_of, is_still_parked, limit_of}
+use Rattle.cp_call.specs.History.{Calm, Limit, state_after, full_at, shown_count, is_leave, posts_of, cells_of}
+use Rattle.cp_call.specs.Store.{state_of, is_still_parked, limit_of}
 use Rattle.cp_factindex.specs.declared.plan.Plan.{Plan}
 use Rattle.cp_factindex.specs.declared.pred.Pred.TheInside.{Inside}
 use Rattle.cp_call.specs.declared.refused.Refused.{Refused}
@@ -20,12 +19,12 @@ use Rattle.cp_call.specs.declared.refused.Refused.TheVariants as refused
 use Rattle.cp_factindex.specs.declared.contents.Contents.{Contents}
 use Rattle.cp_factindex.specs.Contents.{parked_in, state_in}
 use Rattle.cp_factindex.specs.Effect.{IsPlaced}
-use Rattle.cp_factindex.specs.Plan.{IsPlanFor, IsRightPlan}
+use Rattle.cp_factindex.specs.Plan.{IsPlanFor}
 use Rattle.cp_factindex.proofs.Placing.{placed_after}
 use Rattle.cp_factindex.specs.declared.waiter.Waiter.{Waiter}
 use Rattle.cp_factindex.specs.Steps.{steps_at}
 use Rattle.cp_factindex.specs.Waiting.{is_caller_in}
-use Rattle.cp_factindex.specs.Inside.{IsStore, IsReady, inside_state, store_of}
+use Rattle.cp_factindex.specs.Inside.{IsStore, store_of}
 use Rattle.cp_call.specs.Refusals.{IsPrepared, tested}
 
 le_min : (n x m : ℕ) → n ≤ m → nat_le n (min x m) ≡ nat_le n x

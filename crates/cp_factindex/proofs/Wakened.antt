@@ -1,11 +1,11 @@
 -- The parked callers that a fact wakes.
-use Rattle.std.proofs.Common.{◌≡◌, ◌≤◌, ◌++◌, arith, ℕ, ◌+◌, Bool, true, false, not, ◌&&◌, cond, List, [], ◌∷◌, filter, Option, None, Some, refl, sym, ◌∙◌, ap, subst}
-use Rattle.std.specs.Prelude.{ℤ, map, count_by}
+use Rattle.std.proofs.Common.{◌≡◌, ◌≤◌, ◌++◌, arith, ℕ, ◌+◌, Bool, true, false, not, ◌&&◌, cond, List, [], ◌∷◌, None, refl, sym, ◌∙◌, ap, subst}
+use Rattle.std.specs.Prelude.{ℤ}
 use Rattle.std.specs.Cmp.{both_ways}
 use Rattle.std.proofs.lemmas.Bool.{false≢true}
 use Rattle.cp_call.specs.declared.outcome.FactRow.{FactRow}
 use Rattle.cp_call.specs.declared.outcome.ParkedRow.{ParkedRow}
-use Rattle.cp_call.specs.Object.{callers_of, woken_by, left_parked, sees, is_above}
+use Rattle.cp_call.specs.Object.{callers_of, woken_by, sees, is_above}
 use Rattle.cp_term.specs.Unification.{unifiable_apart}
 use Rattle.cp_counted.specs.declared.key.Key.{Key}
 use Rattle.cp_counted.specs.declared.key.Key.TheVariants as k

@@ -1,5 +1,5 @@
 -- What a prepared call does, and when that is the step of the call.
-use Rattle.std.specs.Prelude.{◌≡◌, ◌≢◌, List, [], ◌∷◌, ℤ, pos, ◌+ℤ◌, ◌≤ℤ◌}
+use Rattle.std.specs.Prelude.{◌≡◌, List, [], ◌∷◌, ℤ, pos, ◌+ℤ◌, ◌≤ℤ◌}
 use Rattle.cp_call.specs.declared.outcome.FactRow.{FactRow}
 use Rattle.cp_call.specs.Object.{State, Stepped}
 use Rattle.cp_factindex.specs.declared.contents.Contents.{Contents}

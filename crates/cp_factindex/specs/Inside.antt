@@ -1,5 +1,5 @@
 -- The fields of a shared object, and what holds of them.
-use Rattle.std.specs.Prelude.{ℕ, ◌≡◌, ◌<◌, false, not, ◌&&◌, List, Some, None, MatchOption, min, ◌-◌, ◌^◌, pos}
+use Rattle.std.specs.Prelude.{◌≡◌, ◌<◌, false, not, ◌&&◌, List, None, MatchOption, min, ◌-◌, ◌^◌, pos}
 use Rattle.cp_term.specs.declared.cell.Cell.{Cell}
 use Rattle.cp_call.specs.declared.outcome.FactRow.{FactRow}
 use Rattle.cp_call.specs.Object.{State, is_parked, placed_from}

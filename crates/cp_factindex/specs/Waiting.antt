@@ -1,8 +1,8 @@
 -- The parked callers by number, and the number of each.
-use Rattle.std.specs.Prelude.{ℕ, Bool, ◌≡◌, ◌==◌, not, false, cond, List, [], ◌∷◌, ◌++◌, map, filter, ℤ, Option, Some, None, IsSome}
+use Rattle.std.specs.Prelude.{ℕ, Bool, ◌≡◌, ◌==◌, not, false, cond, List, [], ◌∷◌, ◌++◌, filter, ℤ, Option, Some, None, IsSome}
 use Rattle.std.specs.List.{list_any}
 use Rattle.std.specs.Option.{option_flatten}
-use Rattle.std.specs.Ordering.{nat_cmp, int_cmp}
+use Rattle.std.specs.Ordering.{nat_cmp}
 use Rattle.std.specs.BTreeMap.{BTreeMap, get, is_at}
 use Rattle.cp_call.specs.declared.outcome.ParkedRow.{ParkedRow}
 use Rattle.cp_counted.specs.declared.key.Key.{Key}

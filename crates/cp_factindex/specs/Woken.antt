@@ -1,5 +1,5 @@
 -- Which parked callers a new fact wakes.
-use Rattle.std.specs.Prelude.{ℕ, ◌≡◌, ◌&&◌, cond, not, List, filter, ℤ}
+use Rattle.std.specs.Prelude.{ℕ, ◌≡◌, cond, not, List, filter, ℤ}
 use Rattle.cp_call.specs.declared.outcome.FactRow.{FactRow}
 use Rattle.cp_call.specs.declared.outcome.ParkedRow.{ParkedRow}
 use Rattle.cp_call.specs.Object.{callers_of, woken_by, left_parked, is_above}

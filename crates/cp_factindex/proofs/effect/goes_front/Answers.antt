@@ -1,4 +1,4 @@
-use Rattle.std.proofs.Common.{◌≡◌, ◌∙◌, ap, sym, subst, w64, rules}
+use Rattle.std.proofs.Common.{◌∙◌, ap, sym, subst, w64, rules}
 use Rattle.std.specs.Prelude.{ℤ, pos, ◌-ℤ◌}
 use Rattle.std.proofs.lemmas.Int.{to_z-of_z}
 use Rattle.cp_keyed.specs.Index.{AreAbove}

@@ -1,4 +1,4 @@
-use Rattle.std.proofs.Common.{◌≡◌, ◌∙◌, ap, sym, rules}
+use Rattle.std.proofs.Common.{◌∙◌, sym, rules}
 use Rattle.cp_factindex.proofs.Effects.{callers_are}
 use Rattle.cp_factindex.proofs.effect.missed.Goals as goal
 

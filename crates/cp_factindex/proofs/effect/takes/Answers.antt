@@ -1,4 +1,4 @@
-use Rattle.std.proofs.Common.{◌≡◌, ◌∙◌, sym, w64, rules}
+use Rattle.std.proofs.Common.{◌∙◌, sym, w64, rules}
 use Rattle.std.proofs.lemmas.Int.{to_z-of_z}
 use Rattle.cp_factindex.proofs.Effects.{takes_at, change_is}
 use Rattle.cp_factindex.proofs.effect.takes.Goals as goal

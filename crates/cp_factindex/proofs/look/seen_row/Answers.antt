@@ -1,5 +1,4 @@
-use Rattle.std.proofs.Common.{rules, ◌≡◌, ◌≤◌, ◌+◌, ◌∷◌, List, Some, ℕ, suc, length, arith, refl, sym, ◌∙◌, ap, to_z, of_z, w64}
-use Rattle.std.specs.Prelude.{ℤ}
+use Rattle.std.proofs.Common.{rules, Some, arith, sym, ◌∙◌, ap, to_z, of_z, w64}
 use Rattle.std.proofs.lemmas.Int.{to_z-of_z}
 use Rattle.cp_counted.specs.Keys.{term_key}
 use Rattle.cp_factindex.proofs.Collecting.{next_tried, none_tried, row_tried, fewer, fewest}

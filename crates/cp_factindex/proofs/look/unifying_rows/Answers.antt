@@ -1,5 +1,4 @@
-use Rattle.std.proofs.Common.{rules, ◌≡◌, ◌≤◌, ◌+◌, ◌∷◌, ◌++◌, [], List, Some, None, ℕ, suc, length, arith, refl, sym, subst, ◌∙◌, ap, to_z, of_z, w64}
-use Rattle.std.specs.Prelude.{ℤ}
+use Rattle.std.proofs.Common.{rules, Some, None, length, arith, sym, subst, ◌∙◌, ap, to_z, of_z, w64}
 use Rattle.std.proofs.lemmas.Int.{to_z-of_z}
 use Rattle.cp_counted.specs.Keys.{term_key}
 use Rattle.cp_keyed.specs.Index.{AreAscending}

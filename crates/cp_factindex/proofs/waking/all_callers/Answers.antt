@@ -1,4 +1,4 @@
-use Rattle.std.proofs.Common.{◌≡◌, ◌∙◌, None, ap, refl}
+use Rattle.std.proofs.Common.{◌∙◌, None, ap, refl}
 use Rattle.cp_call.specs.Object.{callers_of}
 use Rattle.cp_counted.specs.declared.key.Key.TheVariants.{Missing}
 use Rattle.cp_keyed.specs.Index.{tried}

@@ -1,4 +1,4 @@
-use Rattle.std.proofs.Common.{rules, ◌≡◌, ◌≤◌, ◌+◌, ◌∷◌, ◌++◌, [], List, Some, None, ℕ, suc, length, arith, refl, sym, subst, ◌∙◌, ap, to_z, of_z, w64}
+use Rattle.std.proofs.Common.{rules, ◌≡◌, ◌∷◌, Some, None, arith, sym, subst, ◌∙◌, ap, to_z, of_z, w64}
 use Rattle.std.specs.Prelude.{ℤ}
 use Rattle.std.proofs.lemmas.Int.{to_z-of_z}
 use Rattle.cp_call.specs.Object.{callers_of, woken_by}
@@ -8,7 +8,7 @@ use Rattle.cp_factindex.specs.declared.waiter.Waiter.{Waiter}
 use Rattle.cp_factindex.specs.Contents.{parked_in}
 use Rattle.cp_factindex.specs.Steps.{steps_to_wake}
 use Rattle.cp_factindex.specs.Waiting.{waiter_key}
-use Rattle.cp_factindex.proofs.Collecting.{spots_in, next_tried, none_tried, agrees_tried, gathers, passes, gathered_all, fewer, fewest}
+use Rattle.cp_factindex.proofs.Collecting.{spots_in, next_tried, none_tried, agrees_tried, gathers, passes, gathered_all, fewest}
 use Rattle.cp_factindex.proofs.Wakened.{wakes_at, wakes_at_most, called, passed_over, steps_left, all_called, woken}
 use Rattle.cp_factindex.proofs.waking.wakes_by.Goals as goal
 

@@ -1,4 +1,4 @@
-use Rattle.std.proofs.Common.{rules, ◌≡◌, refl, sym, ◌∙◌, ap, arith}
+use Rattle.std.proofs.Common.{rules, sym}
 use Rattle.cp_factindex.proofs.Committing.{commit_keeps}
 use Rattle.cp_factindex.proofs.pred.Pred.commit.Goals as goal
 

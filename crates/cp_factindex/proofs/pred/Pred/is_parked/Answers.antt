@@ -1,4 +1,4 @@
-use Rattle.std.proofs.Common.{◌≡◌, ◌∙◌, ap, sym}
+use Rattle.std.proofs.Common.{◌∙◌, ap, sym}
 use Rattle.cp_call.specs.Object.{State, is_parked}
 use Rattle.cp_call.specs.Store.{StoreView, state_of}
 use Rattle.cp_factindex.proofs.Effects.{callers_are}

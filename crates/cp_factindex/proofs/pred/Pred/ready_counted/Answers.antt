@@ -1,9 +1,9 @@
-use Rattle.std.proofs.Common.{rules, ◌≡◌, ◌≤◌, ◌+◌, refl, sym, ◌∙◌, ap, subst}
+use Rattle.std.proofs.Common.{◌≤◌, ◌+◌, refl, sym, ◌∙◌, subst}
 use Rattle.std.specs.Prelude.{Ok, Err}
 use Rattle.std.proofs.lemmas.Result.{err_from_is_err_and}
 use Rattle.cp_call.specs.declared.refused.Refused.TheVariants as refused
 use Rattle.cp_call.specs.Store.{StoreView, is_still_parked, limit_of, state_of}
-use Rattle.cp_call.specs.Refusals.{IsPrepared, tested}
+use Rattle.cp_call.specs.Refusals.{IsPrepared}
 use Rattle.cp_factindex.specs.Steps.{steps_at}
 use Rattle.cp_factindex.specs.Inside.{store_of}
 use Rattle.cp_factindex.proofs.Readying.{test_is, refused_by_test, refused_by_memory, not_refused, ready_keeps, room_after, inside_placed, inside_awake, inside_steps}
@@ -18,7 +18,7 @@ prepared-requires-clause-awake g c = inside_awake c.self.inside c.drop_ahead.new
 
 pub invariant_of-self-2 : goal.invariant_of-self-2
 invariant_of-self-2 g c = ready_keeps c.self.inside c.prepared.new.contents c.reserve.new.self c.in_ok-plan.plan c.args.caller c.args.call.now c.in_ok-test.field-0
-    c.self.invariant (c.prepared.ensures.state ∙ c.drop_ahead.ensures.state) c.reserve.ensures.items (room_after c.reserve.result c.reserve.new.self.spare c.self.inside.history.spare c.reserve.ensures.ok (sym c.is_err.ensures ∙ c.if-is_err.false))
+    c.self.invariant (c.prepared.ensures.state ∙ c.drop_ahead.ensures.state) c.reserve.ensures.items (room_after c.reserve.result c.reserve.new.self.spare c.self.inside.history.spare c.reserve.ensures.ok (sym c.is_err.ensures.value ∙ c.if-is_err.false))
     (sym (test_is c.self.inside c.drop_ahead.new.contents c.args.caller c.len-entries.result c.args.call.now c.self.invariant c.drop_ahead.ensures.state c.len-entries.ensures) ∙ (sym (rw c.is_parked.ensures at c.test.ensures) ∙ c.in_ok-test.was))
     c.in_ok-plan.ensures.ok
 

@@ -1,4 +1,4 @@
-use Rattle.std.proofs.Common.{◌≡◌, ◌∙◌, ap, sym}
+use Rattle.std.proofs.Common.{◌∙◌, ap}
 use Rattle.std.specs.Prelude.{is_some}
 use Rattle.cp_keyed.specs.Index.{IndexView}
 use Rattle.cp_factindex.specs.declared.waiter.Waiter.{Waiter}

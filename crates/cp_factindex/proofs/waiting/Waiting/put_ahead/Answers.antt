@@ -1,4 +1,4 @@
-use Rattle.std.proofs.Common.{◌≡◌, ◌∙◌, ap, sym, refl, false, List, to_z, of_z, w64}
+use Rattle.std.proofs.Common.{◌∙◌, ap, sym, refl, List, to_z, of_z, w64}
 use Rattle.std.specs.Prelude.{ℤ}
 use Rattle.cp_keyed.specs.Index.{IndexView}
 use Rattle.cp_factindex.specs.declared.waiter.Waiter.{Waiter}

@@ -1,4 +1,4 @@
-use Rattle.std.proofs.Common.{◌≡◌, ◌∙◌, sym}
+use Rattle.std.proofs.Common.{◌∙◌, sym}
 use Rattle.cp_factindex.specs.Waiting.{waiter_key}
 use Rattle.cp_factindex.proofs.Parking.{left_by_none, left_more, right_left}
 use Rattle.cp_factindex.proofs.waiting.Waiting.remove_all.Goals as goal

@@ -1,4 +1,4 @@
-use Rattle.std.proofs.Common.{◌≡◌, ◌∙◌, ap, sym, to_z, of_z, w64, rules}
+use Rattle.std.proofs.Common.{◌∙◌, ap, sym, to_z, of_z, w64, rules}
 use Rattle.std.proofs.lemmas.Int.{to_z-of_z}
 use Rattle.cp_factindex.specs.declared.waiting.Waiting.TheInside.{Inside}
 use Rattle.cp_factindex.proofs.Parking.{shows, shows_none}

@@ -1,4 +1,4 @@
-use Rattle.std.proofs.Common.{◌≡◌, ◌∙◌, ap, sym, subst, Some, to_z, of_z, w64, rules}
+use Rattle.std.proofs.Common.{◌∙◌, ap, sym, subst, Some, to_z, of_z, w64, rules}
 use Rattle.std.proofs.lemmas.Int.{to_z-of_z}
 use Rattle.cp_keyed.specs.Index.{IndexView}
 use Rattle.cp_factindex.specs.declared.waiter.Waiter.{Waiter}
