@@ -1,7 +1,6 @@
 -- What a prepared call is to do is the step of the call.
-use Rattle.std.proofs.Common.{◌≡◌, ℕ, ◌==◌, Bool, true, false, not, ◌||◌, cond, List, [], ◌∷◌, ◌++◌, length, filter, Option, Some, refl, sym, ◌∙◌, ap, subst, arith}
-use Rattle.std.specs.Prelude.{Vec, ℤ, pos, ◌+ℤ◌, ◌-ℤ◌}
-use Rattle.std.specs.declared.alloc.Global.{Global}
+use Rattle.std.proofs.Common.{◌≡◌, ℕ, ◌==◌, Bool, true, false, not, ◌||◌, cond, List, [], ◌∷◌, ◌++◌, filter, Option, Some, refl, sym, ◌∙◌, ap, subst, arith}
+use Rattle.std.specs.Prelude.{ℤ, pos, ◌+ℤ◌}
 use Rattle.std.proofs.lemmas.Bool.Decides.{Decides-eqb}
 use Rattle.std.specs.Ordering.{int_eq}
 use Rattle.std.specs.List.{list_any}
@@ -10,7 +9,7 @@ use Rattle.cp_term.specs.declared.cell.Cell.{Cell}
 use Rattle.cp_call.specs.declared.call.Reply.TheVariants as reply
 use Rattle.cp_call.specs.declared.outcome.FactRow.{FactRow}
 use Rattle.cp_call.specs.declared.outcome.ParkedRow.{ParkedRow}
-use Rattle.cp_call.specs.Object.{adds_front, adds_back, replaces, purges, removes, finds_nothing, leaves, first_seen, without, is_parked, sees}
+use Rattle.cp_call.specs.Object.{adds_back, removes, leaves, first_seen, without, is_parked, sees}
 use Rattle.cp_counted.specs.declared.key.Key.{Key}
 use Rattle.cp_counted.specs.Keys.{term_key}
 use Rattle.cp_keyed.specs.Index.{IndexView, IsRight, AreRight, is_among, row_at}
@@ -26,8 +25,7 @@ use Rattle.cp_factindex.specs.declared.contents.ParkedChange.TheVariants as park
 use Rattle.cp_factindex.specs.Contents.{facts_in, parked_in, state_in, IsFresh}
 use Rattle.cp_factindex.specs.declared.effect.Effect.{Effect}
 use Rattle.cp_factindex.specs.Effect.{IsEffect}
-use Rattle.cp_factindex.specs.Purged.{IsPurgedBy}
-use Rattle.cp_factindex.specs.Waiting.{waiter_key, is_caller_in, IsAdded, IsSpotOf}
+use Rattle.cp_factindex.specs.Waiting.{waiter_key, is_caller_in, IsSpotOf}
 use Rattle.cp_factindex.specs.Woken.{IsWokenBy}
 use Rattle.cp_factindex.proofs.Looking.{fact_of}
 use Rattle.cp_factindex.proofs.Collecting.{filter_map_is}
@@ -35,10 +33,6 @@ use Rattle.cp_factindex.proofs.Collecting.{filter_map_is}
 pub facts_push : (rows : List (ℤ × List Cell)) (e : ℤ × List Cell) → facts_in (rows ++ e ∷ []) ≡ facts_in rows ++ fact_of e ∷ []
 facts_push [] e = refl
 facts_push (x ∷ rows) e = ap (λ r. fact_of x ∷ r) (facts_push rows e)
-
-parked_push : (rows : List (ℤ × Waiter)) (e : ℤ × Waiter) → parked_in (rows ++ e ∷ []) ≡ parked_in rows ++ e.1.row ∷ []
-parked_push [] e = refl
-parked_push (x ∷ rows) e = ap (λ r. x.1.row ∷ r) (parked_push rows e)
 
 int_eq_back : (p q : ℤ) → int_eq p q ≡ int_eq q p
 int_eq_back p q = grind (arith, ints)
@@ -80,44 +74,6 @@ module _ (c : Contents) (fresh : IsFresh c) where
     right = record { facts = tt; parked = woken_right (record { place = c.highest +ℤ pos 1; fact = fact }) w h };
   }
 
-  pub goes_front_is : (v : IndexView (List Cell)) (fact : List Cell) (w : Woken)
-      → IsWokenBy (record { place = c.lowest -ℤ pos 1; fact = fact }) c.waiting.rows w → v.whole ≡ (c.lowest -ℤ pos 1, fact) ∷ c.facts.rows
-      → IsEffect (record c { facts = v }) (adds_front (state_in c) fact) (record {
-        reply = reply.Added (c.lowest -ℤ pos 1) w.callers;
-        change = record { facts = facts.Show; parked = parked.RemoveAll w.spots; lowest = c.lowest -ℤ pos 1; highest = c.highest; is_open = c.is_open };
-      })
-  goes_front_is v fact w h e = record {
-    reply = ap (reply.Added (c.lowest -ℤ pos 1)) h.callers;
-    state = λ i. record {
-      kind = c.kind;
-      facts = ap facts_in e i;
-      lowest = c.lowest -ℤ pos 1;
-      highest = c.highest;
-      is_open = c.is_open;
-      parked = left_of (record { place = c.lowest -ℤ pos 1; fact = fact }) w h i;
-    };
-    right = record { facts = tt; parked = woken_right (record { place = c.lowest -ℤ pos 1; fact = fact }) w h };
-  }
-
-  pub goes_alone_is : (v : IndexView (List Cell)) (fact : List Cell) (w : Woken)
-      → IsWokenBy (record { place = c.highest +ℤ pos 1; fact = fact }) c.waiting.rows w → v.rows ≡ (c.highest +ℤ pos 1, fact) ∷ []
-      → IsEffect c (replaces (state_in c) fact) (record {
-        reply = reply.Replaced (c.highest +ℤ pos 1) w.callers;
-        change = record { facts = facts.Set v; parked = parked.RemoveAll w.spots; lowest = c.lowest; highest = c.highest +ℤ pos 1; is_open = c.is_open };
-      })
-  goes_alone_is v fact w h e = record {
-    reply = ap (reply.Replaced (c.highest +ℤ pos 1)) h.callers;
-    state = λ i. record {
-      kind = c.kind;
-      facts = ap facts_in e i;
-      lowest = c.lowest;
-      highest = c.highest +ℤ pos 1;
-      is_open = c.is_open;
-      parked = left_of (record { place = c.highest +ℤ pos 1; fact = fact }) w h i;
-    };
-    right = record { facts = tt; parked = woken_right (record { place = c.highest +ℤ pos 1; fact = fact }) w h };
-  }
-
   -- a fact that is taken
   pub takes_is : (caller : ℕ) (pattern : List Cell) (after : Option ℤ) (waits : Bool) (f : FactRow) → row_at f.place c.facts.rows ≡ Some f.fact
       → IsEffect c (removes (state_in c) caller pattern after waits (Some f)) (record {
@@ -142,26 +98,6 @@ module _ (c : Contents) (fresh : IsFresh c) where
           let z : Some f.fact ≡ Some t = sym r ∙ (ap (λ (rows : List (ℤ × List Cell)). row_at f.place rows) (sym fresh.facts) ∙ q) in
           let y : f.fact ≡ t = cc in
           ap term_key (sym y)
-
-  -- a caller that is to be parked
-  pub parks_is : (v : IndexView Waiter) (caller : ℕ) (pattern : List Cell) (after : Option ℤ) → v.rows ≡ c.waiting.rows
-      → IsAdded c.waiting.rows (record { caller = caller; pattern = pattern; after = after }) v.whole
-      → IsEffect (record c { waiting = v }) (finds_nothing (state_in c) caller pattern after true) (record {
-        reply = reply.Parked;
-        change = record { facts = facts.Keep; parked = parked.Show; lowest = c.lowest; highest = c.highest; is_open = c.is_open };
-      })
-  parks_is v caller pattern after e a = record {
-    reply = refl;
-    state = λ i. record {
-      kind = c.kind;
-      facts = facts_in c.facts.rows;
-      lowest = c.lowest;
-      highest = c.highest;
-      is_open = c.is_open;
-      parked = (ap parked_in a.1 ∙ parked_push c.waiting.rows (a.0, record { row = record { caller = caller; pattern = pattern; after = after } })) i;
-    };
-    right = record { facts = tt; parked = tt };
-  }
 
 -- a change, part by part
 pub change_is : (change : Change) (f : FactsChange) (p : ParkedChange) (low high : ℤ) (is_open : Bool)
@@ -201,30 +137,6 @@ module _ (c : Contents) (fresh : IsFresh c) where
   })) (sym ep)
       (goes_back_is c fresh v fact w (subst (λ (f : FactRow). IsWokenBy f c.waiting.rows w) (λ i. record { place = ep i; fact = ec i }) h) (e ∙ (λ i. c.facts.rows ++ ((eq ∙ ep) i, ec i) ∷ [])))
 
-  pub goes_front_at : (v : IndexView (List Cell)) (fact copy : List Cell) (w : Woken) (p q : ℤ) → p ≡ (c.lowest -ℤ pos 1) → copy ≡ fact → q ≡ p
-      → IsWokenBy (record { place = p; fact = copy }) c.waiting.rows w → v.whole ≡ (q, copy) ∷ c.facts.rows
-      → IsEffect (record c { facts = v }) (adds_front (state_in c) fact) (record {
-        reply = reply.Added p w.callers;
-        change = record { facts = facts.Show; parked = parked.RemoveAll w.spots; lowest = p; highest = c.highest; is_open = c.is_open };
-      })
-  goes_front_at v fact copy w p q ep ec eq h e = subst (λ (x : ℤ). IsEffect (record c { facts = v }) (adds_front (state_in c) fact) (record {
-    reply = reply.Added x w.callers;
-    change = record { facts = facts.Show; parked = parked.RemoveAll w.spots; lowest = x; highest = c.highest; is_open = c.is_open };
-  })) (sym ep)
-      (goes_front_is c fresh v fact w (subst (λ (f : FactRow). IsWokenBy f c.waiting.rows w) (λ i. record { place = ep i; fact = ec i }) h) (e ∙ (λ i. ((eq ∙ ep) i, ec i) ∷ c.facts.rows)))
-
-  pub goes_alone_at : (v : IndexView (List Cell)) (fact copy : List Cell) (w : Woken) (p q : ℤ) → p ≡ (c.highest +ℤ pos 1) → copy ≡ fact → q ≡ p
-      → IsWokenBy (record { place = p; fact = copy }) c.waiting.rows w → v.rows ≡ (q, copy) ∷ []
-      → IsEffect c (replaces (state_in c) fact) (record {
-        reply = reply.Replaced p w.callers;
-        change = record { facts = facts.Set v; parked = parked.RemoveAll w.spots; lowest = c.lowest; highest = p; is_open = c.is_open };
-      })
-  goes_alone_at v fact copy w p q ep ec eq h e = subst (λ (x : ℤ). IsEffect c (replaces (state_in c) fact) (record {
-    reply = reply.Replaced x w.callers;
-    change = record { facts = facts.Set v; parked = parked.RemoveAll w.spots; lowest = c.lowest; highest = x; is_open = c.is_open };
-  })) (sym ep)
-      (goes_alone_is c fresh v fact w (subst (λ (f : FactRow). IsWokenBy f c.waiting.rows w) (λ i. record { place = ep i; fact = ec i }) h) (e ∙ (λ i. ((eq ∙ ep) i, ec i) ∷ [])))
-
   -- the fact that is seen, taken
   pub takes_at : (caller : ℕ) (pattern : List Cell) (after : Option ℤ) (waits : Bool) (f : FactRow) (key : Key) (p : ℤ) (change : Change)
       → Some f ≡ first_seen (facts_in c.facts.rows) pattern after → row_at f.place c.facts.rows ≡ Some f.fact → key ≡ term_key f.fact → p ≡ f.place
@@ -235,34 +147,6 @@ module _ (c : Contents) (fresh : IsFresh c) where
       (subst (λ (x : Change). IsEffect c (removes (state_in c) caller pattern after waits (Some f)) (record { reply = reply.Found f.place f.fact; change = x }))
       ((λ i. record { facts = facts.Remove (sym ek i, sym ep i); parked = parked.Keep; lowest = c.lowest; highest = c.highest; is_open = c.is_open }) ∙ ec)
       (takes_is c fresh caller pattern after waits f r))
-
-  -- a caller that waits, with a copy of its pattern
-  pub parks_at : (v : IndexView Waiter) (caller : ℕ) (pattern copy : List Cell) (after : Option ℤ) (change : Change) → copy ≡ pattern → v.rows ≡ c.waiting.rows
-      → IsAdded c.waiting.rows (record { caller = caller; pattern = copy; after = after }) v.whole
-      → record { facts = facts.Keep; parked = parked.Show; lowest = c.lowest; highest = c.highest; is_open = c.is_open } ≡ change
-      → IsEffect (record c { waiting = v }) (finds_nothing (state_in c) caller pattern after true) (record { reply = reply.Parked; change = change })
-  parks_at v caller pattern copy after change ep er a ec =
-      subst (λ (x : Change). IsEffect (record c { waiting = v }) (finds_nothing (state_in c) caller pattern after true) (record { reply = reply.Parked; change = x })) ec
-      (parks_is c fresh v caller pattern after er (subst (λ (x : List Cell). IsAdded c.waiting.rows (record { caller = caller; pattern = x; after = after }) v.whole) ep a))
-
-  -- the facts that unify go
-  pub clears_at : {spots : Vec (Key × ℤ) Global} (pattern : List Cell) (count : ℕ) (change : Change) → IsPurgedBy pattern c.facts.rows spots.items → count ≡ length spots.items
-      → record { facts = facts.RemoveAll spots; parked = parked.Keep; lowest = c.lowest; highest = c.highest; is_open = c.is_open } ≡ change
-      → IsEffect c (purges (state_in c) pattern) (record { reply = reply.Purged count; change = change })
-  clears_at {spots} pattern count change h n ec =
-      subst (λ (x : Change). IsEffect c (purges (state_in c) pattern) (record { reply = reply.Purged count; change = x })) ec
-      (record {
-        reply = ap reply.Purged (n ∙ h.count);
-        state = λ i. record {
-          kind = c.kind;
-          facts = (ap (λ (rows : List (ℤ × List Cell)). facts_in (filter (λ (e : ℤ × List Cell). not (is_among spots.items e.0)) rows)) fresh.facts ∙ h.left) i;
-          lowest = c.lowest;
-          highest = c.highest;
-          is_open = c.is_open;
-          parked = parked_in c.waiting.rows;
-        };
-        right = record { facts = subst (λ (rows : List (ℤ × List Cell)). AreRight term_key rows spots.items) (sym fresh.facts) h.right; parked = tt };
-      })
 
   -- a caller that is parked gives up
   pub quits_at : (caller : ℕ) (s : Key × ℤ) (change : Change) → IsSpotOf c.waiting.rows caller (Some s)
