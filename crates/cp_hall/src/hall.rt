@@ -9,9 +9,11 @@ ghost use Rattle.cp_hall.specs.Hall.{objects_of, histories_of, ended_histories, 
 use cp_call::{
     Asked, Asker, Call, ObjectKind, ObjectName, PredEnd, PredEnds, Refused, Reply, Terms,
 };
-use cp_fact::Pred;
+use cp_counted::Steps;
+use cp_factindex::Pred;
 use std::alloc::{AllocError, Global};
-use std::marker::Model;
+use std::marker::{Brand, Model};
+use std::sync::ledger::{Blank, Ledger};
 
 /// One shared object with its name.
 #[derive(Drop)]
@@ -48,7 +50,24 @@ pub fn ask_one(pred: &mut Pred, caller: u32, call: &Call) -> Asked
     ensures full { (o : Object) → o.kind ≡ pred.old.kind → o.opening ≡ pred.old.opening → IsFullBy (Some o) pred.new.history caller call.now result }
     ensures still { (o : Object) → o.kind ≡ pred.old.kind → o.opening ≡ pred.old.opening → IsStill (Some o) pred.new.history caller call.now result }
 {
-    match pred.ready(caller, call) {
+    ask_from::<Brand>(pred, Blank::new(1), caller, call)
+}
+
+/// Asks one object, and counts the steps in a new counter.
+fn ask_from<L: Ledger>(pred: &mut Pred, blank: Blank, caller: u32, call: &Call) -> Asked
+    requires name { blank.name ≡ L.name }
+    requires parts { blank.parts ≡ L.parts }
+    requires some { 0 < blank.parts }
+    ensures kind { pred.new.kind ≡ pred.old.kind }
+    ensures opening { pred.new.opening ≡ pred.old.opening }
+    ensures history { pred.new.history ≡ pred.old.history ++ entry_added caller call.now result }
+    ensures legal { Legal pred.new.kind pred.new.opening pred.new.history }
+    ensures answer { IsAnswer (is_still_parked pred.old caller call.now) (limit_of pred.old call.now) (step (state_of pred.old) caller call.now).reply result }
+    ensures full { (o : Object) → o.kind ≡ pred.old.kind → o.opening ≡ pred.old.opening → IsFullBy (Some o) pred.new.history caller call.now result }
+    ensures still { (o : Object) → o.kind ≡ pred.old.kind → o.opening ≡ pred.old.opening → IsStill (Some o) pred.new.history caller call.now result }
+{
+    let mut steps = Steps::<L>::new(blank);
+    match pred.ready_counted(caller, call, &mut steps) {
         Ok(()) => Asked::Replied(pred.commit()),
         Err(Refused::StillParked) => Asked::StillParked,
         Err(Refused::Full { by, count }) => Asked::Replied(Reply::Full { by, count }),
