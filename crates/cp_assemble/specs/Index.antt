@@ -1,5 +1,5 @@
 -- What a file says of its predicates, as tables that are asked by their names.
-use Rattle.std.specs.Prelude.{ℕ, ◌+◌, Bool, ◌&&◌, nat_eq, cond, if◌then◌else◌, List, [], ◌∷◌, length, Option, Some, None}
+use Rattle.std.specs.Prelude.{◌≡◌, ℕ, ◌+◌, Bool, ◌&&◌, nat_eq, cond, if◌then◌else◌, List, [], ◌∷◌, length, Option, Some, None}
 use Rattle.std.specs.List.{filter_map}
 use Rattle.std.specs.Str.{bytes_eq}
 use Rattle.cp_read.specs.declared.clause.ReadClause.{ReadClause}
@@ -31,6 +31,10 @@ places_or (Some places) = places
 abbrev pub places_of : ℕ → List ReadClause → Indicator → List ℕ
 places_of n [] p = []
 places_of n (c ∷ cs) p = cond (is_clause_of p c) (n ∷ places_of (n + 1) cs p) (places_of (n + 1) cs p)
+
+-- the table of the clauses of a file
+abbrev pub IsTableOf : List ReadClause → List Row → Type 0
+IsTableOf clauses rows = (p : Indicator) → places_in rows p ≡ places_of 0 clauses p
 
 -- the place of a clause, if it is one of the predicate
 abbrev pub place_by : ℕ → Option Indicator → Indicator → List ℕ

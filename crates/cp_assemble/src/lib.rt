@@ -18,3 +18,4 @@ mod types;
 
 pub use assembling::assemble;
 pub use linking::{LinkError, ModuleParts, link};
+pub use places::Places;

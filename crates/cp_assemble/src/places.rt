@@ -1,10 +1,10 @@
 ghost use Rattle.std.specs.Prelude.{◌≡◌, ◌∷◌, ◌++◌, [], map, slice_get, IfOk, OnOk, if◌then◌else◌};
 ghost use Rattle.std.specs.List.{filter_map};
 ghost use Rattle.cp_declaration.specs.declared.indicator.Indicator.{Indicator as Pred};
-ghost use Rattle.cp_module.specs.Causes.{same, pred_of};
+ghost use Rattle.cp_module.specs.Causes.{same, pred_of, clauses_of};
 ghost use Rattle.cp_link.specs.Modules.{one};
 ghost use Rattle.cp_link.specs.Linked.{clause_in};
-ghost use Rattle.cp_assemble.specs.Index.{places_in, places_or, places_of, place_by, pred_by};
+ghost use Rattle.cp_assemble.specs.Index.{places_in, places_or, place_by, pred_by, IsTableOf};
 ghost use Rattle.cp_assemble.specs.Rows.{named};
 
 use cp_code::{Clause, Clauses};
@@ -29,7 +29,7 @@ struct Key {
 
 /// The places of the clauses of each predicate among those of a file. Contracts see its rows.
 #[derive(Drop)]
-pub(crate) struct Places {
+pub struct Places {
     rows: IndexMap<Key, Numbers>,
 }
 
@@ -53,8 +53,8 @@ impl Places {
     }
 
     /// The table of the clauses of a file.
-    pub(crate) fn of(alloc: Global, clauses: &[ReadClause]) -> Result<Places, AllocError>
-        ensures { IfOk result (λ places. (p : Pred) → places_in places p ≡ places_of 0 clauses.now p) }
+    pub fn of(alloc: Global, clauses: &[ReadClause]) -> Result<Places, AllocError>
+        ensures { IfOk result (λ places. IsTableOf clauses.now places) }
     {
         let mut places = Places::new(alloc);
         for at in 0..clauses.len() {
@@ -93,6 +93,21 @@ impl Places {
         let none = Numbers::new(places.alloc());
         let old = self.rows.insert(key, places)?;
         Ok(places_or(old, none))
+    }
+
+    /// The clauses of a predicate of a file, as clauses of a module, where this is the table of the clauses of the file.
+    pub fn all_of(
+        &self,
+        alloc: Global,
+        module_name: &Name,
+        clauses: &[ReadClause],
+        pred: &Indicator,
+    ) -> Result<Clauses, AllocError>
+        requires { IsTableOf clauses.now self.now }
+        ensures { IfOk result (λ all. all ≡ map (clause_in module_name.now) (clauses_of clauses.now pred.now)) }
+    {
+        let all = self.clauses_of(alloc, module_name, clauses, pred)?;
+        Ok(all)
     }
 
     /// The clauses that stand where those of a predicate do, as clauses of a module.

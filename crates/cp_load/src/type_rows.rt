@@ -1,17 +1,15 @@
-ghost use Rattle.std.specs.Prelude.{◌≡◌, ◌++◌, ◌∷◌, [], map, Some, None, slice_get, IfOk, OnOk};
+ghost use Rattle.std.specs.Prelude.{◌≡◌, IfOk, OnOk};
 ghost use Rattle.std.specs.Option.{option_copied};
 ghost use Rattle.cp_assertion.specs.RegularTypes.{first_irregular, given};
-ghost use Rattle.cp_module.specs.Causes.{clauses_of, least};
-ghost use Rattle.cp_link.specs.Linked.{clause_in};
+ghost use Rattle.cp_module.specs.Causes.{least};
 ghost use Rattle.cp_load.specs.Types.{line_of, irregular, irregular_types, type_order, with_types};
 
 use crate::type_order::type_order;
+use cp_assemble::Places;
 use cp_assertion::{TypeError, add_regtype};
 use cp_code::{Clause, Clauses, TypeRow, Types};
-use cp_declaration::Indicator;
-use cp_link::{is_clause_of, name_of};
+use cp_link::name_of;
 use cp_module::{Cause, ModulePart, Why, soonest};
-use cp_read::ReadClause;
 use cp_term::Name;
 use std::alloc::{AllocError, Global};
 
@@ -27,53 +25,14 @@ pub(crate) fn add_file_types(
     let module = name_of(alloc, part)?;
     let clauses = part.clauses().as_slice();
     let order = type_order(alloc, clauses)?;
+    let places = Places::of(alloc, clauses)?;
     let mut cause: Option<Cause> = None;
     for pred in order.as_slice() {
-        let own = type_clauses(alloc, &module, clauses, pred)?;
+        let own = places.all_of(alloc, &module, clauses, pred)?;
         let found = add_type(alloc, types, &pred.name, own)?;
         cause = soonest(cause, found);
     }
     Ok(cause)
-}
-
-/// The clauses of a regular type.
-fn type_clauses(
-    alloc: Global,
-    module: &Name,
-    clauses: &[ReadClause],
-    pred: &Indicator,
-) -> Result<Clauses, AllocError>
-    ensures { IfOk result (λ own. own ≡ map (clause_in «module».now) (clauses_of clauses.now pred.now)) }
-{
-    let mut own = Clauses::new(alloc);
-    for clause in clauses {
-        push_clause(&mut own, module, clause, pred)?;
-    }
-    Ok(own)
-}
-
-fn push_clause(
-    own: &mut Clauses,
-    module: &Name,
-    clause: &ReadClause,
-    pred: &Indicator,
-) -> Result<(), AllocError>
-    ensures { OnOk result (own.new ≡ own.old ++ map (clause_in «module».now) (clauses_of (clause.now ∷ []) pred.now)) }
-{
-    if is_clause_of(clause, pred) {
-        own.push(clause_in(module, clause)?)?;
-    }
-    Ok(())
-}
-
-fn clause_in(module: &Name, clause: &ReadClause) -> Result<Clause, AllocError>
-    ensures { IfOk result (λ own. own ≡ clause_in «module».now clause.now) }
-{
-    Ok(Clause {
-        whole: clause.term.copy()?,
-        module: module.clone()?,
-        line: clause.line,
-    })
 }
 
 /// Gives a regular type its clauses, and tells the first that the rules do not admit.
