@@ -1,0 +1,4 @@
+pub mod Numbered
+pub mod Working
+pub mod Gathering
+pub mod Going
