@@ -14,7 +14,7 @@ use Rattle.cp_call.specs.Sound.{Object, Going, Sound, is_engine, own_entries, ow
 use Rattle.cp_list.specs.Lists.{IsPrefix}
 use Rattle.cp_shell.specs.Shell.{ShellView}
 use Rattle.cp_shell.proofs.Calling.{leads_on}
-use Rattle.std.proofs.lemmas.List.Elements.{filter-append, All-head, All-tail}
+use Rattle.std.proofs.lemmas.List.Elements.{filter-append, All-nil, All-cons, All-head, All-tail}
 use Rattle.cp_hall.specs.declared.hall.HallRow.{HallRow}
 use Rattle.cp_hall.specs.Hall.{HallObject, AreLegal, objects_of, history_at}
 use Rattle.cp_out.specs.Port.{PortView, GoesOn, goes_on-here, goes_on-on}
@@ -26,10 +26,10 @@ use Rattle.cp_crew_end.specs.Engines.{HasOnlyEngines}
 use Rattle.cp_turn.specs.Passes.{PassView, TurnstileView, IsOutside, AreFresh, fresh}
 use Rattle.cp_turn_hall.specs.Behind.{HallPassView, IsPassOf, AreNew, hall_at_start, new_pass, seen_at}
 use Rattle.cp_crew.specs.Crew.{IsLaterShell, AreLater, NoneStopped, MayBegin, IsFurther, HasGoneOn, GoesIfDriven, IsSoundIfParked}
-use Rattle.cp_crew.specs.Staff.{SeatedView, IsSeated, IsOut, IsPortOut, all_seated, hall_pass}
+use Rattle.cp_crew.specs.Staff.{SeatedView, IsSeated, Worked, AllWorked, HaveWorked, IsOut, IsPortOut, all_seated, hall_pass}
 use Rattle.cp_crew.proofs.Gathering.{seated_length}
 use Rattle.cp_crew.proofs.Numbered.{Each, each_of, each_at, each_index, nobody_has}
-use Rattle.cp_crew.proofs.Working.{Drives, SeesAll, Worked, AllWorked, IsBack, are_seated, are_back, passes_back, writers_back, hall_numbers, port_numbers, drive_on, are_later, worked_length}
+use Rattle.cp_crew.proofs.Working.{Drives, SeesAll, IsBack, are_seated, are_back, passes_back, writers_back, hall_numbers, port_numbers, drive_on, are_later, worked_length}
 
 awake_before : (b now : Bool) → (b ≡ true → now ≡ true) → now ≡ false → b ≡ false
 awake_before true now stops is = let w : ⊥ = cc (stops refl, is) in absurd w
@@ -85,9 +85,9 @@ pub if_some : {X : Type 0} {P Q : X → Type 0} (o : Option X) → IfSome o P �
 if_some None h f = tt
 if_some (Some x) h f = f x refl h
 
-both : {X : Type 0} {P Q : X → Type 0} (o : Option X) → IfSome o P → IfSome o Q → IfSome o (λ x. P x × Q x)
-both None p q = tt
-both (Some x) p q = (p, q)
+both : {X : Type 0} (P Q : X → Type 0) (o : Option X) → IfSome o P → IfSome o Q → IfSome o (λ x. P x × Q x)
+both P Q None p q = tt
+both P Q (Some x) p q = (p, q)
 
 module _ {M S C Code : Type 0} (code : M → Code) (asks : Code → Rule) (count : Code → ℕ) (went : C → RemoteCall → RemoteReply → C → Type 0) where
   -- a crew whose round was refused has gone on by nothing
@@ -147,21 +147,21 @@ module _ {M S C Code : Type 0} (code : M → Code) (asks : Code → Rule) (count
     works = g.works;
   }
 
-  -- the workers name only objects that there are
-  pub all_know : (ss : List (ShellView M)) (hall : List HallObject) (port : List OutEntry) (cs : List C) → MayBegin code asks count ss hall port cs → AllKnow (length (objects_of hall)) ss
-  all_know ss hall port cs may i s at = (may.ready.driven.running i s at).agrees.known
+-- the workers name only objects that there are
+pub all_know : {M C Code : Type 0} (code : M → Code) (asks : Code → Rule) (count : Code → ℕ) (ss : List (ShellView M)) (hall : List HallObject) (port : List OutEntry) (cs : List C) → MayBegin code asks count ss hall port cs → AllKnow (length (objects_of hall)) ss
+all_know code asks count ss hall port cs may i s at = (may.ready.driven.running i s at).agrees.known
 
-  -- new shells may begin
-  pub begins : (ss : List (ShellView M)) (hall : List HallObject) (port : List OutEntry) (cs : List C) → 0 < length ss → IsFresh code count ss hall → length cs ≡ length ss → port ≡ [] → MayBegin code asks count ss hall port cs
-  begins ss hall port cs some fresh long empty = record {
-    some = some;
-    callers_are = long;
-    ready = starts_ready code asks count ss hall port fresh empty;
-    only = record {
-      callers = λ n p out. ap (own_entries n) (fresh.unasked p);
-      writers = λ n out. ap (own_writes n) empty;
-    };
-  }
+-- new shells may begin
+pub begins : {M C Code : Type 0} (code : M → Code) (asks : Code → Rule) (count : Code → ℕ) (ss : List (ShellView M)) (hall : List HallObject) (port : List OutEntry) (cs : List C) → 0 < length ss → IsFresh code count ss hall → length cs ≡ length ss → port ≡ [] → MayBegin code asks count ss hall port cs
+begins code asks count ss hall port cs some new long empty = record {
+  some = some;
+  callers_are = long;
+  ready = starts_ready code asks count ss hall port new empty;
+  only = record {
+    callers = λ n p out. ap (own_entries n) (new.unasked p);
+    writers = λ n out. ap (own_writes n) empty;
+  };
+}
 
 -- an engine has its number
 is_in : (n m : ℕ) → 1 ≤ m → m ≤ n → is_engine n m ≡ true
@@ -170,7 +170,7 @@ is_in n m low high = ap (λ b. b && nat_le m n) (le-leb 1 m low) ∙ le-leb m n 
 not_in : (n q : ℕ) → is_engine n q ≡ false → (m : ℕ) → 1 ≤ m → m < 1 + n → m ≢ q
 not_in n q out m low high e = let z : ⊥ = cc (ap (is_engine n) (sym e) ∙ is_in n m low (omega arith), out) in z
 
-module _ {M S C Code : Type 0} (code : M → Code) (asks : Code → Rule) (count : Code → ℕ) (k : Code) where
+module _ {M Code : Type 0} (code : M → Code) (asks : Code → Rule) (k : Code) where
   -- drivers, by their numbers
   pub driven_each : (objects : List Object) (ss : List (ShellView M)) (hall : List HallObject) (port : List OutEntry) → AreDriven code asks k objects ss hall port → Each (Drives code asks k objects hall port) 1 ss
   driven_each objects ss hall port d = each_of (Drives code asks k objects hall port) 1 ss (λ i s at. record { number = d.numbers i s at; code_is = d.codes i s at; running = d.running i s at })
@@ -230,12 +230,12 @@ module _ {M S C Code : Type 0} (code : M → Code) (asks : Code → Rule) (count
   module _ (b : HasBegun code asks count ss hall port cs ts g hs ps) where
     pub begun_seated : All (IsSeated code asks count) (all_seated ts g ss hs ps cs)
     begun_seated = are_seated code asks count b.may.ready.code_is hall port ts g b.start b.base b.may.ready.counts 1 ss hs ps cs
-        (driven_each {M} {S} {C} code asks count b.may.ready.code_is (objects_of hall) ss hall port.entries b.may.ready.driven) b.sees b.fresh_passes
+        (driven_each code asks b.may.ready.code_is (objects_of hall) ss hall port.entries b.may.ready.driven) b.sees b.fresh_passes
 
     pub come_back : (vs : List (SeatedView M S C)) (k : Code) → AreDriven code asks k (objects_of hall) ss hall port.entries → AllWorked code went (all_seated ts g ss hs ps cs) vs → All (IsSeated code asks count) vs
         → Each (IsBack code asks count went k ts g) 1 vs
     come_back vs k driven worked is = are_back code asks count went k ts g 1 ss hs ps cs vs
-        (each_map 1 ss (λ m s d. (d.number, d.code_is)) (driven_each {M} {S} {C} code asks count k (objects_of hall) ss hall port.entries driven))
+        (each_map 1 ss (λ m s d. (d.number, d.code_is)) (driven_each code asks k (objects_of hall) ss hall port.entries driven))
         (each_map 1 hs (λ m h s. s.number) b.sees)
         (each_map 1 ps (λ m p e. ap (λ (x : PassView OutEntry (PortView S)). x.number) e) b.fresh_passes)
         worked is
@@ -251,14 +251,14 @@ module _ {M S C Code : Type 0} (code : M → Code) (asks : Code → Rule) (count
         → All (IsPassOf ts) (map hall_pass vs) × All (λ (t : TurnstileView HallRow). t.callers ≡ length (map hall_pass vs)) ts
     hall_back vs worked is = (
       passes_back code asks count went b.may.ready.code_is ts g 1 vs (back_now vs worked is),
-      subst (λ n. All (λ (t : TurnstileView HallRow). t.callers ≡ n) ts) (sym (length-map hall_pass vs ∙ count_back vs worked)) b.hall_callers,
+      subst (λ n. All (λ (t : TurnstileView HallRow). t.callers ≡ n) ts) (sym (length-map vs hall_pass ∙ count_back vs worked)) b.hall_callers,
     )
 
     pub port_back : (vs : List (SeatedView M S C)) → AllWorked code went (all_seated ts g ss hs ps cs) vs → All (IsSeated code asks count) vs
         → All (IsOutside g) (map (λ (v : SeatedView M S C). v.port.pass) vs) × (length (map (λ (v : SeatedView M S C). v.port.pass) vs) ≡ g.callers)
     port_back vs worked is = (
       writers_back code asks count went b.may.ready.code_is ts g 1 vs (back_now vs worked is),
-      length-map (λ (v : SeatedView M S C). v.port.pass) vs ∙ count_back vs worked ∙ sym b.callers,
+      length-map vs (λ (v : SeatedView M S C). v.port.pass) ∙ count_back vs worked ∙ sym b.callers,
     )
 
     -- what the round leaves
@@ -272,17 +272,17 @@ module _ {M S C Code : Type 0} (code : M → Code) (asks : Code → Rule) (count
       goes_on = subst (λ x. GoesOn x port') b.base po.goes_on;
       further = if_some out outs (λ h eq o. record {
         objects = o.objects ∙ ap objects_of b.start;
-        driven = λ k d. each_driven {M} {S} {C} code asks count k (objects_of hall) (map (λ (v : SeatedView M S C). v.shell) vs) h port'.entries (o.objects ∙ ap objects_of b.start)
+        driven = λ k d. each_driven code asks k (objects_of hall) (map (λ (v : SeatedView M S C). v.shell) vs) h port'.entries (o.objects ∙ ap objects_of b.start)
             (subst (λ hl. Each (Drives code asks k (objects_of hl) h port'.entries) 1 (map (λ (v : SeatedView M S C). v.shell) vs)) b.start
             (drive_on code asks count went k ts g h po.later port'.entries po.entries 1 vs (come_back vs k d worked is) o.seen po.seen));
         only = record {
-          callers = λ n p no. o.others n p (nobody_has (λ (x : HallPassView). x.number) n 1 (map hall_pass vs) (hall_numbers code asks count went b.may.ready.code_is ts g 1 vs (back_now vs worked is)) (outside n no (length (map hall_pass vs)) (length-map hall_pass vs)))
-              ∙ (ap (λ hl. own_entries n (history_at hl p)) b.start ∙ b.may.only.callers n p (engine_not n no));
-          writers = λ n no. ap (own_writes n) po.entries
+          callers = λ n p none. o.others n p (nobody_has (λ (x : HallPassView). x.number) n 1 (map hall_pass vs) (hall_numbers code asks count went b.may.ready.code_is ts g 1 vs (back_now vs worked is)) (outside n none (length (map hall_pass vs)) (length-map vs hall_pass)))
+              ∙ (ap (λ hl. own_entries n (history_at hl p)) b.start ∙ b.may.only.callers n p (engine_not n none));
+          writers = λ n none. ap (own_writes n) po.entries
               ∙ (filter-append (λ (e : OutEntry). e.engine == n) g.base.entries po.later
-              ∙ (ap (λ xs. own_writes n g.base.entries ++ xs) (po.others n (nobody_has (λ (x : PassView OutEntry (PortView S)). x.number) n 1 (map (λ (v : SeatedView M S C). v.port.pass) vs) (port_numbers code asks count went b.may.ready.code_is ts g 1 vs (back_now vs worked is)) (outside n no (length (map (λ (v : SeatedView M S C). v.port.pass) vs)) (length-map (λ (v : SeatedView M S C). v.port.pass) vs))))
+              ∙ (ap (λ xs. own_writes n g.base.entries ++ xs) (po.others n (nobody_has (λ (x : PassView OutEntry (PortView S)). x.number) n 1 (map (λ (v : SeatedView M S C). v.port.pass) vs) (port_numbers code asks count went b.may.ready.code_is ts g 1 vs (back_now vs worked is)) (outside n none (length (map (λ (v : SeatedView M S C). v.port.pass) vs)) (length-map vs (λ (v : SeatedView M S C). v.port.pass)))))
               ∙ (append-nil (own_writes n g.base.entries)
-              ∙ (ap (λ (x : PortView S). own_writes n x.entries) b.base ∙ b.may.only.writers n (engine_not n no)))));
+              ∙ (ap (λ (x : PortView S). own_writes n x.entries) b.base ∙ b.may.only.writers n (engine_not n none)))));
         };
         legal = o.legal;
       });
@@ -291,10 +291,46 @@ module _ {M S C Code : Type 0} (code : M → Code) (asks : Code → Rule) (count
     }
       where
         engine_not : (n : ℕ) → is_engine (length (map (λ (v : SeatedView M S C). v.shell) vs)) n ≡ false → is_engine (length ss) n ≡ false
-        engine_not n no = ap (λ c. is_engine c n) (sym (length-map (λ (v : SeatedView M S C). v.shell) vs ∙ count_back vs worked)) ∙ no
+        engine_not n none = ap (λ c. is_engine c n) (sym (length-map vs (λ (v : SeatedView M S C). v.shell) ∙ count_back vs worked)) ∙ none
 
         outside : (n : ℕ) → is_engine (length (map (λ (v : SeatedView M S C). v.shell) vs)) n ≡ false → (l : ℕ) → l ≡ length vs → (m : ℕ) → 1 ≤ m → m < 1 + l → m ≢ n
-        outside n no l same m low high = not_in (length ss) n (engine_not n no) m low (let e : l ≡ length ss = same ∙ count_back vs worked in omega (arith, e))
+        outside n none l same m low high = not_in (length ss) n (engine_not n none) m low (let e : l ≡ length ss = same ∙ count_back vs worked in omega (arith, e))
+
+    -- the same, by what the workers have left
+    module _ (ss' : List (ShellView M)) (hs' : List HallPassView) (ps' : List (PassView OutEntry (PortView S))) (cs' : List C) (hw : HaveWorked code asks count went (all_seated ts g ss hs ps cs) ss' hs' ps' cs') where
+      pub counts_done : (length ss' ≡ length ss) × (length hs' ≡ length ss) × (length ps' ≡ length ss) × (length cs' ≡ length ss)
+      counts_done =
+          let l = count_back hw.now hw.worked in (
+            ap length hw.shells_are ∙ (length-map hw.now (λ (v : SeatedView M S C). v.shell) ∙ l),
+            ap length hw.hall_passes_are ∙ (length-map hw.now hall_pass ∙ l),
+            ap length hw.port_passes_are ∙ (length-map hw.now (λ (v : SeatedView M S C). v.port.pass) ∙ l),
+            ap length hw.callers_are ∙ (length-map hw.now (λ (v : SeatedView M S C). v.caller) ∙ l),
+          )
+
+      pub hall_done : All (IsPassOf ts) hs' × All (λ (t : TurnstileView HallRow). t.callers ≡ length hs') ts
+      hall_done = subst (λ (x : List HallPassView). All (IsPassOf ts) x × All (λ (t : TurnstileView HallRow). t.callers ≡ length x) ts) (sym hw.hall_passes_are) (hall_back hw.now hw.worked hw.seated)
+
+      pub port_done : All (IsOutside g) ps' × (length ps' ≡ g.callers)
+      port_done = subst (λ (x : List (PassView OutEntry (PortView S))). All (IsOutside g) x × (length x ≡ g.callers)) (sym hw.port_passes_are) (port_back hw.now hw.worked hw.seated)
+
+      pub crew_done : (out : Option (List HallObject)) (port' : PortView S) (memory : Bool) → IfSome out (λ h. IsOut ts hs' h) → IsPortOut g ps' port'
+          → (out ≡ None → memory ≡ true) → (memory ≡ false → NoneStopped ss') → HasGoneOn code asks went ss ss' hall out port port' cs cs' memory
+      crew_done out port' memory outs po missing works =
+          subst (λ x. HasGoneOn code asks went ss x hall out port port' cs cs' memory) (sym hw.shells_are)
+          (subst (λ y. HasGoneOn code asks went ss (map (λ (v : SeatedView M S C). v.shell) hw.now) hall out port port' cs y memory) (sym hw.callers_are)
+          (round_done hw.now out port' memory hw.worked hw.seated
+              (subst (λ (x : List HallPassView). IfSome out (λ h. IsOut ts x h)) hw.hall_passes_are outs)
+              (subst (λ (x : List (PassView OutEntry (PortView S))). IsPortOut g x port') hw.port_passes_are po)
+              missing
+              (λ awake. subst (λ (x : List (ShellView M)). NoneStopped x) hw.shells_are (works awake))))
+
+each_all : {X : Type 0} {P : ℕ → X → Type 0} (Q : X → Type 0) (n : ℕ) (xs : List X) → ((m : ℕ) (x : X) → P m x → Q x) → Each P n xs → All Q xs
+each_all Q n [] f each = All-nil Q
+each_all Q n (x ∷ xs) f each = All-cons Q x xs (f n x each.0) (each_all Q (n + 1) xs f each.1)
+
+-- passes that are made are outside
+pub fresh_outside : {E B : Type 0} (g : TurnstileView B) (ps : List (PassView E B)) → AreFresh g ps → All (IsOutside g) ps
+fresh_outside g ps made = each_all (IsOutside g) 1 ps (λ m p e. subst (IsOutside g) (sym e) ((refl, refl), refl)) (each_index (fresh g) 1 ps (λ i d h. made.1 i d (omega (arith, made.0))))
 
 module _ {M S C Code : Type 0} (code : M → Code) (asks : Code → Rule) (count : Code → ℕ) (went : C → RemoteCall → RemoteReply → C → Type 0)
     (ss ts : List (ShellView M)) (hall : List HallObject) (hall' : Option (List HallObject)) (port port' : PortView S) (bs cs : List C) (memory : Bool) where
@@ -302,17 +338,17 @@ module _ {M S C Code : Type 0} (code : M → Code) (asks : Code → Rule) (count
   may_after may gone = if_some hall' gone.further (λ h is f. may_go_on code asks count went ss ts hall h port port' bs cs may gone.later f)
 
   pub known_after : MayBegin code asks count ss hall port.entries bs → HasGoneOn code asks went ss ts hall hall' port port' bs cs memory → IfSome hall' (λ h. AllKnow (length (objects_of h)) ts)
-  known_after may gone = if_some hall' (may_after may gone) (λ h is m. all_know {M} {S} {C} code asks count went ts h port'.entries cs m)
+  known_after may gone = if_some hall' (may_after may gone) (λ h is m. all_know code asks count ts h port'.entries cs m)
 
   pub going_at_end : (k : Code) (steps : ℕ) → AreDriven code asks k (objects_of hall) ss hall port.entries → HasGoneOn code asks went ss ts hall hall' port port' bs cs memory
       → IfSome hall' (λ h. GoesIfDriven code asks ts h port'.entries) → IfSome hall' (λ h. Going (workers_setup (asks k) (objects_of hall)) (record_ended steps ts h port'.entries))
-  going_at_end k steps driven gone law = if_some hall' (both hall' gone.further law) (λ h is b.
+  going_at_end k steps driven gone law = if_some hall' (both _ _ hall' gone.further law) (λ h is b.
       subst (λ os. Going (workers_setup (asks k) os) (record_ended steps ts h port'.entries)) b.0.objects
       (b.1 k steps (subst (λ os. AreDriven code asks k os ts h port'.entries) (sym b.0.objects) (b.0.driven k driven)) b.0.legal b.0.only))
 
   pub sound_at_end : (k : Code) (steps : ℕ) → AreDriven code asks k (objects_of hall) ss hall port.entries → HasGoneOn code asks went ss ts hall hall' port port' bs cs memory
       → IfSome hall' (λ h. IsSoundIfParked code asks ts h port'.entries) → IfSome hall' (λ h. AllParked h ts) → IfSome hall' (λ h. Sound (workers_setup (asks k) (objects_of hall)) (record_ended steps ts h port'.entries))
-  sound_at_end k steps driven gone law parked = if_some hall' (both hall' gone.further (both hall' law parked)) (λ h is b.
+  sound_at_end k steps driven gone law parked = if_some hall' (both _ _ hall' gone.further (both _ _ hall' law parked)) (λ h is b.
       subst (λ os. Sound (workers_setup (asks k) os) (record_ended steps ts h port'.entries)) b.0.objects
       (b.1.0 k steps (subst (λ os. AreDriven code asks k os ts h port'.entries) (sym b.0.objects) (b.0.driven k driven)) b.0.legal b.0.only b.1.1))
 
@@ -323,3 +359,7 @@ pub go_after : {M S C Code : Type 0} (code : M → Code) (asks : Code → Rule) 
 go_after code asks count went rs ss ts hall None hall'' port port' port'' az bs cs memory memory' gone awake next = let w : ⊥ = cc (gone.missing refl, awake) in absurd w
 go_after code asks count went rs ss ts hall (Some h) hall'' port port' port'' az bs cs memory memory' gone awake next =
     goes_further code asks count went rs ss ts hall h hall'' port port' port'' az bs cs memory' gone.later gone.goes_on gone.further next
+
+pub if_any : {X : Type 0} (P : X → Type 0) (o : Option X) → ((x : X) → P x) → IfSome o P
+if_any P None f = tt
+if_any P (Some x) f = f x

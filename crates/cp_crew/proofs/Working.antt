@@ -21,7 +21,7 @@ use Rattle.cp_turn_hall.specs.Behind.{HallPassView, SeatView, IsPassOf, IsSeenIn
 use Rattle.cp_turn_port.specs.Seat.{PortSeatView, IsSeatOf, wrote_for}
 use Rattle.cp_round.specs.Worker.{WorkerView, IsTied, HasWorked}
 use Rattle.cp_crew.specs.Crew.{IsLaterShell, AreLater}
-use Rattle.cp_crew.specs.Staff.{SeatedView, IsSeated, StaysSeated, seated, all_seated, hall_pass}
+use Rattle.cp_crew.specs.Staff.{SeatedView, IsSeated, StaysSeated, Worked, AllWorked, seated, all_seated, hall_pass}
 use Rattle.cp_crew.proofs.Numbered.{Each}
 
 same_prefix : {X : Type 0} (xs ys : List X) → xs ≡ ys → IsPrefix xs ys
@@ -97,16 +97,7 @@ module _ {M S C Code : Type 0} (code : M → Code) (asks : Code → Rule) (count
 
 -- each worker has worked
 module _ {M S C Code : Type 0} (code : M → Code) (went : C → RemoteCall → RemoteReply → C → Type 0) where
-  abbrev pub Worked : SeatedView M S C → SeatedView M S C → Type 0
-  Worked w v = HasWorked code StaysSeated IsSeatOf went w v
-
-  abbrev pub AllWorked : List (SeatedView M S C) → List (SeatedView M S C) → Type 0
-  AllWorked [] [] = Unit {0}
-  AllWorked [] (v ∷ vs) = ⊥
-  AllWorked (w ∷ ws) [] = ⊥
-  AllWorked (w ∷ ws) (v ∷ vs) = Worked w v × AllWorked ws vs
-
-  pub all_worked : (ws vs : List (SeatedView M S C)) → length vs ≡ length ws → ((i : ℕ) (d : SeatedView M S C) → i < length ws → Worked (slice_index_or ws i d) (slice_index_or vs i d)) → AllWorked ws vs
+  pub all_worked : (ws vs : List (SeatedView M S C)) → length vs ≡ length ws → ((i : ℕ) (d : SeatedView M S C) → i < length ws → Worked code went (slice_index_or ws i d) (slice_index_or vs i d)) → AllWorked code went ws vs
   all_worked [] [] long each = tt
   all_worked [] (v ∷ vs) long each = absurd (let z : ⊥ = omega arith in z)
   all_worked (w ∷ ws) [] long each = absurd (let z : ⊥ = omega arith in z)

@@ -1,5 +1,7 @@
 -- The workers of a round, each at the seats of its number.
-use Rattle.std.specs.Prelude.{◌≡◌, ◌≢◌, ◌==◌, ℕ, List, [], ◌∷◌, ◌++◌, All}
+use Rattle.std.specs.Prelude.{◌≡◌, ◌≢◌, ◌==◌, ℕ, List, [], ◌∷◌, ◌++◌, All, map}
+use Rattle.cp_call.specs.declared.item.RemoteCall.{RemoteCall}
+use Rattle.cp_call.specs.declared.item.RemoteReply.{RemoteReply}
 use Rattle.cp_call.specs.declared.outcome.OutEntry.{OutEntry}
 use Rattle.cp_call.specs.Life.{Rule}
 use Rattle.cp_call.specs.Sound.{own_entries, own_writes}
@@ -9,8 +11,8 @@ use Rattle.cp_hall.specs.Hall.{HallObject, AreLegal, objects_of, history_at}
 use Rattle.cp_out.specs.Port.{PortView, GoesOn}
 use Rattle.cp_turn.specs.Passes.{PassView, TurnstileView, IsOutside, ExtendsSeen}
 use Rattle.cp_turn_hall.specs.Behind.{HallPassView, SeatView, IsPassOf, IsSeenIn, hall_at_start, seen_for}
-use Rattle.cp_turn_port.specs.Seat.{PortSeatView, writes_for, wrote_for}
-use Rattle.cp_round.specs.Worker.{WorkerView, IsTied}
+use Rattle.cp_turn_port.specs.Seat.{PortSeatView, IsSeatOf, writes_for, wrote_for}
+use Rattle.cp_round.specs.Worker.{WorkerView, IsTied, HasWorked}
 
 -- a worker at a seat of the objects and a seat of the port
 abbrev pub SeatedView : Type 0 → Type 0 → Type 0 → Type 0
@@ -60,3 +62,25 @@ pub record IsPortOut {S : Type 0} (turn : TurnstileView (PortView S)) (passes : 
   pub entries : port.entries ≡ turn.base.entries ++ later
   pub seen : All (ExtendsSeen (λ (e : OutEntry). e.engine) later) passes
   pub others : (n : ℕ) → All (λ p. p.number ≢ n) passes → own_writes n later ≡ []
+
+module _ {M S C Code : Type 0} (code : M → Code) (went : C → RemoteCall → RemoteReply → C → Type 0) where
+  -- a worker has worked, and is at its seats
+  abbrev pub Worked : SeatedView M S C → SeatedView M S C → Type 0
+  Worked w v = HasWorked code StaysSeated IsSeatOf went w v
+
+  abbrev pub AllWorked : List (SeatedView M S C) → List (SeatedView M S C) → Type 0
+  AllWorked [] [] = Unit {0}
+  AllWorked [] (v ∷ vs) = ⊥
+  AllWorked (w ∷ ws) [] = ⊥
+  AllWorked (w ∷ ws) (v ∷ vs) = Worked w v × AllWorked ws vs
+
+-- What workers have left: each has worked and is at its seats, and this is what they are made of.
+pub record HaveWorked {M S C Code : Type 0} (code : M → Code) (asks : Code → Rule) (count : Code → ℕ) (went : C → RemoteCall → RemoteReply → C → Type 0) (before : List (SeatedView M S C))
+    (shells : List (ShellView M)) (hall_passes : List HallPassView) (port_passes : List (PassView OutEntry (PortView S))) (callers : List C) : Type 0 where
+  pub now : List (SeatedView M S C)
+  pub worked : AllWorked code went before now
+  pub seated : All (IsSeated code asks count) now
+  pub shells_are : shells ≡ map (λ (w : SeatedView M S C). w.shell) now
+  pub hall_passes_are : hall_passes ≡ map hall_pass now
+  pub port_passes_are : port_passes ≡ map (λ (w : SeatedView M S C). w.port.pass) now
+  pub callers_are : callers ≡ map (λ (w : SeatedView M S C). w.caller) now

@@ -7,9 +7,9 @@ ghost use Rattle.cp_hall.specs.Hall.{objects_of};
 ghost use Rattle.cp_crew.specs.Crew.{HasGoneOn, MayBegin, NoneStopped};
 
 use crate::crew::{CallerList, Crew, Shells};
-use crate::lend::lend;
+use crate::lend::work_round;
 use crate::parked::{all_parked, any_stopped};
-use crate::staff::{Seated, Staff, dismiss_all, room, seat_all};
+use crate::staff::{Seated, Staff, room};
 use cp_call::{Caller, Machine};
 use cp_hall::PlainHall;
 use cp_io::{Gate, Sink};
@@ -84,9 +84,7 @@ where
         port_passes: port_passes.into_vec(),
         callers: callers.into_vec(),
     };
-    let mut workers = seat_all(rt, gate, &objects, &turn, &bells, staff, places);
-    lend(rt, &mut workers);
-    let staff = dismiss_all(workers, room);
+    let staff = work_round(rt, gate, &objects, &turn, &bells, staff, places, room);
     close_round(objects, turn, staff)
 }
 /// What the crew is without a round, for which there is no memory.

@@ -1,22 +1,19 @@
-use Rattle.std.proofs.Common.{◌≡◌, ◌≤◌, ℕ, List, ◌++◌, length, take, rules, sym, ◌∙◌, ap, subst, arith}
+use Rattle.std.proofs.Common.{◌≡◌, ◌<◌, ◌≤◌, ℕ, List, ◌++◌, length, take, rules, sym, ◌∙◌, ap, subst, arith}
 use Rattle.std.specs.Prelude.{slice_index_or}
 use Rattle.std.proofs.lemmas.List.{take-append-le, take_all}
 use lib.ListN.{drop}
-use denote.Param.Send.{sendable}
-use Rattle.std.proofs.Crossing.{crosses}
+use denote.Param.Send.{param_send}
 use Rattle.cp_round.specs.Worker.{HasWorked}
-use Rattle.cp_turn_hall.proofs.Crossing.{object_send, hall_sync}
 use Rattle.cp_turn_port.specs.Seat.{IsSeatOf}
-use Rattle.cp_turn.proofs.turnstile.Turnstile.TheSendSync as turnstile
-use Rattle.cp_turn.proofs.pass.Pass.TheSendSync as pass
 use Rattle.cp_crew.specs.Staff.{SeatedView, StaysSeated}
+use Rattle.cp_crew.proofs.Crossing.{seat_send, writer_send}
 use Rattle.cp_crew.proofs.lend.lend.Goals as goal
 
 pub run_round-requires-send-A : goal.run_round-requires-send-A
-run_round-requires-send-A g c κs within = search (sendable, crosses, hall_sync, object_send, c.type_bounds.sync-R, c.type_bounds.sync-G) depth 14
+run_round-requires-send-A g c κs within = param_send 2 _ (seat_send _ _ _ c.type_bounds.sync-R c.type_bounds.sync-G)
 
 pub run_round-requires-send-P : goal.run_round-requires-send-P
-run_round-requires-send-P g c κs within = search (sendable, crosses, turnstile.the_sync, pass.the_send, c.type_bounds.sync-R, c.type_bounds.send-S) depth 14
+run_round-requires-send-P g c κs within = param_send 3 _ (writer_send _ _ _ _ c.type_bounds.sync-R c.type_bounds.send-S)
 
 pub returns-clause-worked : goal.returns-clause-worked
 returns-clause-worked g c k d h =
@@ -26,4 +23,5 @@ returns-clause-worked g c k d h =
     let le : c.args.workers.now.len ≤ length news = omega (arith, long) in
     let ge : length news ≤ c.args.workers.now.len = omega (arith, long) in
     let same : take c.args.workers.now.len (news ++ drop (length news) olds) ≡ news = take-append-le c.args.workers.now.len news (drop (length news) olds) le ∙ take_all c.args.workers.now.len news ge in
-    subst (λ l. HasWorked g.M.Machine.code StaysSeated IsSeatOf g.C.Caller.went (slice_index_or olds k d) (slice_index_or l k d)) (sym same) (c.run_round.ensures k d h)
+    subst (λ l. HasWorked g.M.Machine.code StaysSeated IsSeatOf g.C.Caller.went (slice_index_or olds k d) (slice_index_or l k d)) (sym same)
+    (subst (λ l. k < length l → HasWorked g.M.Machine.code StaysSeated IsSeatOf g.C.Caller.went (slice_index_or l k d) (slice_index_or news k d)) c.as_mut_slice.ensures.value (c.run_round.ensures k d) h)

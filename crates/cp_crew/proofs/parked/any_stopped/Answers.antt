@@ -1,4 +1,4 @@
-use Rattle.std.proofs.Common.{◌≡◌, ℕ, length, refl, ◌∙◌, sym, Some, false}
+use Rattle.std.proofs.Common.{◌≡◌, ℕ, length, refl, ◌∙◌, sym, Some, false, arith}
 use Rattle.std.specs.Prelude.{slice_get}
 use Rattle.std.proofs.lemmas.Option.{slice_get_read}
 use Rattle.cp_shell.specs.Shell.{ShellView}
@@ -11,4 +11,4 @@ loop-i-preserved g c =
     one_more (λ (s : ShellView g.row.M.Denot). s.is_stopped ≡ false) c.args.shells.now c.loop-i.i c.index-shells-i.result there (sym c.is_stopped.ensures ∙ c.if-is_stopped.false) c.loop-i.invariant
 
 pub returns : goal.returns
-returns g c = all_of (λ (s : ShellView g.row.M.Denot). s.is_stopped ≡ false) c.args.shells.now (λ k s h. c.loop-i.invariant k s (omega arith))
+returns g c working = all_of (λ (s : ShellView g.row.M.Denot). s.is_stopped ≡ false) c.args.shells.now (λ k s h. c.loop-i.invariant k s (omega arith))

@@ -1,0 +1,20 @@
+use Rattle.std.proofs.Common.{◌≡◌, ◌<◌, ℕ, List, length, rules, sym, ◌∙◌, ap, subst, arith}
+use Rattle.std.specs.Prelude.{slice_index_or}
+use Rattle.cp_crew.specs.Staff.{SeatedView, Worked, AllWorked, all_seated}
+use Rattle.cp_crew.proofs.Gathering.{seated_length}
+use Rattle.cp_crew.proofs.Working.{all_worked}
+use Rattle.cp_crew.proofs.lend.work_round.Goals as goal
+
+pub returns : goal.returns
+returns g c =
+    let before : List (SeatedView g.row.M.Denot g.row.S.Denot g.row.C.Denot) = all_seated c.args.hall.now c.args.port.now c.args.staff.shells.items c.args.staff.hall_passes.items c.args.staff.port_passes.items c.args.staff.callers.items in
+    let now : List (SeatedView g.row.M.Denot g.row.S.Denot g.row.C.Denot) = c.lend.new.workers.items in
+    record {
+      now = now;
+      worked = subst (λ l. AllWorked g.M.Machine.code g.C.Caller.went l now) c.seat_all-workers.ensures (all_worked g.M.Machine.code g.C.Caller.went c.seat_all-workers.result.items now c.lend.ensures.long c.lend.ensures.worked);
+      seated = c.dismiss_all.ensures.seated;
+      shells_are = c.dismiss_all.ensures.shells;
+      hall_passes_are = c.dismiss_all.ensures.hall_passes;
+      port_passes_are = c.dismiss_all.ensures.port_passes;
+      callers_are = c.dismiss_all.ensures.callers;
+    }
