@@ -183,7 +183,7 @@ module _ {M Code : Type 0} (code : M → Code) (asks : Code → Rule) (k : Code)
     running = λ i s at. (each_at (Drives code asks k objects hall port) 1 ss each i s at).running;
   }
 
-abbrev SeesHistories : List (TurnstileView HallRow) → List HallObject → HallPassView → Type 0
+abbrev pub SeesHistories : List (TurnstileView HallRow) → List HallObject → HallPassView → Type 0
 SeesHistories ts hall h = (p : ℕ) → seen_at ts h.places p ≡ history_at hall p
 
 sees_each : (ts : List (TurnstileView HallRow)) (hall : List HallObject) (n : ℕ) (hs : List HallPassView) → Each (λ m h. h ≡ new_pass ts m) n hs → All (IsPassOf ts) hs → All (SeesHistories ts hall) hs → Each (SeesAll ts hall) n hs
@@ -226,6 +226,11 @@ module _ {M S C Code : Type 0} (code : M → Code) (asks : Code → Rule) (count
     sees = sees_each ts hall 1 hs (each_index (new_pass ts) 1 hs new) of seen;
     fresh_passes = each_index (fresh g) 1 ps (λ i d h. fresh_ps.1 i d (omega (arith, fresh_ps.0)));
   }
+
+  pub begun_by : (n : ℕ) → n ≡ length ss → MayBegin code asks count ss hall port.entries cs → hall_at_start ts ≡ hall → (g.callers ≡ n) × (g.base ≡ port) × AreFresh g ps
+      → All (λ (t : TurnstileView HallRow). t.callers ≡ n) ts × (length hs ≡ n) → AreNew ts hs → All (IsPassOf ts) hs → All (SeesHistories ts hall) hs → HasBegun code asks count ss hall port cs ts g hs ps
+  begun_by n long may start made counts new of seen =
+      has_begun may start made.1 (made.0 ∙ long) (subst (λ m. All (λ (t : TurnstileView HallRow). t.callers ≡ m) ts) long counts.0) (counts.1 ∙ long) new of seen made.2
 
   module _ (b : HasBegun code asks count ss hall port cs ts g hs ps) where
     pub begun_seated : All (IsSeated code asks count) (all_seated ts g ss hs ps cs)
@@ -323,6 +328,12 @@ module _ {M S C Code : Type 0} (code : M → Code) (asks : Code → Rule) (count
               (subst (λ (x : List (PassView OutEntry (PortView S))). IsPortOut g x port') hw.port_passes_are po)
               missing
               (λ awake. subst (λ (x : List (ShellView M)). NoneStopped x) hw.shells_are (works awake))))
+
+-- the same workers, of the same lists
+pub seated_same : {M S C : Type 0} (ts : List (TurnstileView HallRow)) (g : TurnstileView (PortView S)) (ss ss' : List (ShellView M)) (hs hs' : List HallPassView) (ps ps' : List (PassView OutEntry (PortView S))) (cs cs' : List C)
+    → ss' ≡ ss → hs' ≡ hs → ps' ≡ ps → cs' ≡ cs → all_seated ts g ss' hs' ps' cs' ≡ all_seated ts g ss hs ps cs
+seated_same ts g ss ss' hs hs' ps ps' cs cs' es eh ep ec =
+    ap (λ l. all_seated ts g l hs' ps' cs') es ∙ (ap (λ l. all_seated ts g ss l ps' cs') eh ∙ (ap (λ l. all_seated ts g ss hs l cs') ep ∙ ap (λ l. all_seated ts g ss hs ps l) ec))
 
 each_all : {X : Type 0} {P : ℕ → X → Type 0} (Q : X → Type 0) (n : ℕ) (xs : List X) → ((m : ℕ) (x : X) → P m x → Q x) → Each P n xs → All Q xs
 each_all Q n [] f each = All-nil Q

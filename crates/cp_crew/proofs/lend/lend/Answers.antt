@@ -2,7 +2,7 @@ use Rattle.std.proofs.Common.{◌≡◌, ◌<◌, ◌≤◌, ℕ, List, ◌++◌
 use Rattle.std.specs.Prelude.{slice_index_or}
 use Rattle.std.proofs.lemmas.List.{take-append-le, take_all}
 use lib.ListN.{drop}
-use denote.Param.Send.{param_send}
+use denote.Param.Send.{sendable}
 use Rattle.cp_round.specs.Worker.{HasWorked}
 use Rattle.cp_turn_port.specs.Seat.{IsSeatOf}
 use Rattle.cp_crew.specs.Staff.{SeatedView, StaysSeated}
@@ -10,10 +10,10 @@ use Rattle.cp_crew.proofs.Crossing.{seat_send, writer_send}
 use Rattle.cp_crew.proofs.lend.lend.Goals as goal
 
 pub run_round-requires-send-A : goal.run_round-requires-send-A
-run_round-requires-send-A g c κs within = param_send 2 _ (seat_send _ _ _ c.type_bounds.sync-R c.type_bounds.sync-G)
+run_round-requires-send-A g c κs within = search (sendable, seat_send, c.type_bounds.sync-R, c.type_bounds.sync-G) depth 6
 
 pub run_round-requires-send-P : goal.run_round-requires-send-P
-run_round-requires-send-P g c κs within = param_send 3 _ (writer_send _ _ _ _ c.type_bounds.sync-R c.type_bounds.send-S)
+run_round-requires-send-P g c κs within = search (sendable, writer_send, c.type_bounds.sync-R, c.type_bounds.send-S) depth 6
 
 pub returns-clause-worked : goal.returns-clause-worked
 returns-clause-worked g c k d h =
