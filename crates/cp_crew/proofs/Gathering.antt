@@ -57,12 +57,12 @@ module _ {M S C : Type 0} (ts : List (TurnstileView HallRow)) (g : TurnstileView
     lp,
     lc,
     sym (append_assoc (all_seated ts g ss' hs' ps' cs') (seated ts g s h p c ∷ []) (reverse ws))
-    ∙ (ap (λ l. l ++ reverse ws) (sym (seated_last ss' hs' ps' cs' s h p c lh lp lc))
-    ∙ (ap (λ l. all_seated ts g l (hs' ++ h ∷ []) (ps' ++ p ∷ []) (cs' ++ c ∷ []) ++ reverse ws) (sym es)
-    ∙ (ap (λ l. all_seated ts g ss l (ps' ++ p ∷ []) (cs' ++ c ∷ []) ++ reverse ws) (sym eh)
-    ∙ (ap (λ l. all_seated ts g ss hs l (cs' ++ c ∷ []) ++ reverse ws) (sym ep)
-    ∙ (ap (λ l. all_seated ts g ss hs ps l ++ reverse ws) (sym ec)
-    ∙ is.rest))))),
+        ∙ (ap (λ l. l ++ reverse ws) (sym (seated_last ss' hs' ps' cs' s h p c lh lp lc))
+        ∙ (ap (λ l. all_seated ts g l (hs' ++ h ∷ []) (ps' ++ p ∷ []) (cs' ++ c ∷ []) ++ reverse ws) (sym es)
+        ∙ (ap (λ l. all_seated ts g ss l (ps' ++ p ∷ []) (cs' ++ c ∷ []) ++ reverse ws) (sym eh)
+        ∙ (ap (λ l. all_seated ts g ss hs l (cs' ++ c ∷ []) ++ reverse ws) (sym ep)
+        ∙ (ap (λ l. all_seated ts g ss hs ps l ++ reverse ws) (sym ec)
+        ∙ is.rest))))),
   )
     where
       ls : length ss ≡ length ss' + 1

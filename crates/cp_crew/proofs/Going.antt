@@ -324,10 +324,10 @@ module _ {M S C Code : Type 0} (code : M → Code) (asks : Code → Rule) (count
           subst (λ x. HasGoneOn code asks went ss x hall out port port' cs cs' memory) (sym hw.shells_are)
           (subst (λ y. HasGoneOn code asks went ss (map (λ (v : SeatedView M S C). v.shell) hw.now) hall out port port' cs y memory) (sym hw.callers_are)
           (round_done hw.now out port' memory hw.worked hw.seated
-              (subst (λ (x : List HallPassView). IfSome out (λ h. IsOut ts x h)) hw.hall_passes_are outs)
-              (subst (λ (x : List (PassView OutEntry (PortView S))). IsPortOut g x port') hw.port_passes_are po)
-              missing
-              (λ awake. subst (λ (x : List (ShellView M)). NoneStopped x) hw.shells_are (works awake))))
+          (subst (λ (x : List HallPassView). IfSome out (λ h. IsOut ts x h)) hw.hall_passes_are outs)
+          (subst (λ (x : List (PassView OutEntry (PortView S))). IsPortOut g x port') hw.port_passes_are po)
+          missing
+          (λ awake. subst (λ (x : List (ShellView M)). NoneStopped x) hw.shells_are (works awake))))
 
 -- the same workers, of the same lists
 pub seated_same : {M S C : Type 0} (ts : List (TurnstileView HallRow)) (g : TurnstileView (PortView S)) (ss ss' : List (ShellView M)) (hs hs' : List HallPassView) (ps ps' : List (PassView OutEntry (PortView S))) (cs cs' : List C)

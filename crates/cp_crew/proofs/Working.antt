@@ -140,9 +140,10 @@ module _ {M S C Code : Type 0} (code : M → Code) (asks : Code → Rule) (count
   are_back n (s ∷ ss) [] ps cs (v ∷ vs) d eh ep worked is = absurd worked
   are_back n (s ∷ ss) (h ∷ hs) [] cs (v ∷ vs) d eh ep worked is = absurd worked
   are_back n (s ∷ ss) (h ∷ hs) (p ∷ ps) [] (v ∷ vs) d eh ep worked is = absurd worked
-  are_back n (s ∷ ss) (h ∷ hs) (p ∷ ps) (c ∷ cs) (v ∷ vs) d eh ep worked is =
-      (back_here n s h p c v (record { number = d.0.0; code_is = d.0.1; hall_number = eh.0; port_number = ep.0 }) worked.0 (All-head (IsSeated code asks count) v vs is),
-       are_back (n + 1) ss hs ps cs vs d.1 eh.1 ep.1 worked.1 (All-tail (IsSeated code asks count) v vs is))
+  are_back n (s ∷ ss) (h ∷ hs) (p ∷ ps) (c ∷ cs) (v ∷ vs) d eh ep worked is = (
+    back_here n s h p c v (record { number = d.0.0; code_is = d.0.1; hall_number = eh.0; port_number = ep.0 }) worked.0 (All-head (IsSeated code asks count) v vs is),
+    are_back (n + 1) ss hs ps cs vs d.1 eh.1 ep.1 worked.1 (All-tail (IsSeated code asks count) v vs is),
+  )
 
   -- so their passes are of these turnstiles, outside, and numbered
   pub passes_back : (n : ℕ) (vs : List (SeatedView M S C)) → Each IsBack n vs → All (IsPassOf ts) (map hall_pass vs)

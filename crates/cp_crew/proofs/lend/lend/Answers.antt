@@ -2,7 +2,10 @@ use Rattle.std.proofs.Common.{◌≡◌, ◌<◌, ◌≤◌, ℕ, List, ◌++◌
 use Rattle.std.specs.Prelude.{slice_index_or}
 use Rattle.std.proofs.lemmas.List.{take-append-le, take_all}
 use lib.ListN.{drop}
-use denote.Param.Send.{sendable}
+use denote.Ref.{NamedLft}
+use denote.Param.{param}
+use denote.Param.Send.{IsSend, sendable}
+use Rattle.cp_turn_port.specs.contracts.seat.PortSeat as writer
 use Rattle.cp_round.specs.Worker.{HasWorked}
 use Rattle.cp_turn_port.specs.Seat.{IsSeatOf}
 use Rattle.cp_crew.specs.Staff.{SeatedView, StaysSeated}
@@ -13,7 +16,9 @@ pub run_round-requires-send-A : goal.run_round-requires-send-A
 run_round-requires-send-A g c κs within = search (sendable, seat_send, c.type_bounds.sync-R, c.type_bounds.sync-G) depth 6
 
 pub run_round-requires-send-P : goal.run_round-requires-send-P
-run_round-requires-send-P g c κs within = search (sendable, writer_send, c.type_bounds.sync-R, c.type_bounds.send-S) depth 6
+run_round-requires-send-P g c κs within =
+    let here : (α : NamedLft) → IsSend (writer.the_row α (param 0 g.row.R) (param 2 g.row.S) g.S.Sink) = λ α. writer_send α (param 0 g.row.R) (param 2 g.row.S) g.S.Sink c.type_bounds.sync-R c.type_bounds.send-S in
+    search (sendable, here) depth 6
 
 pub returns-clause-worked : goal.returns-clause-worked
 returns-clause-worked g c k d h =
