@@ -1,17 +1,13 @@
 -- One round after another, to the end.
-use Rattle.std.proofs.Common.{◌≡◌, ◌≢◌, ℕ, zero, suc, ◌+◌, ◌<◌, ◌≤◌, List, [], ◌∷◌, ◌++◌, append-nil, append_assoc, length, refl, sym, ◌∙◌, ap, subst, Bool, true, false, Option, Some, None, arith}
-use Rattle.std.specs.Prelude.{All, map, slice_get, slice_index_or, IfSome, ◌&&◌, ◌==◌, nat_le}
+use Rattle.std.proofs.Common.{◌≡◌, ◌≢◌, ℕ, suc, ◌+◌, ◌<◌, ◌≤◌, List, [], ◌∷◌, ◌++◌, append-nil, append_assoc, length, refl, sym, ◌∙◌, ap, subst, Bool, true, false, Option, Some, None, arith}
+use Rattle.std.specs.Prelude.{All, map, IfSome, ◌&&◌, ◌==◌, nat_le}
 use Rattle.std.proofs.lemmas.Bool.{le-leb}
 use Rattle.std.proofs.lemmas.List.{length-map}
-use Rattle.std.specs.List.{list_all}
-use Rattle.cp_call.specs.declared.call.Entry.{Entry}
-use Rattle.cp_call.specs.declared.item.Item.{Item}
 use Rattle.cp_call.specs.declared.item.RemoteCall.{RemoteCall}
 use Rattle.cp_call.specs.declared.item.RemoteReply.{RemoteReply}
 use Rattle.cp_call.specs.declared.outcome.OutEntry.{OutEntry}
 use Rattle.cp_call.specs.Life.{Rule}
 use Rattle.cp_call.specs.Sound.{Object, Going, Sound, is_engine, own_entries, own_writes}
-use Rattle.cp_list.specs.Lists.{IsPrefix}
 use Rattle.cp_shell.specs.Shell.{ShellView}
 use Rattle.cp_shell.proofs.Calling.{leads_on}
 use Rattle.std.proofs.lemmas.List.Elements.{filter-append, All-nil, All-cons, All-head, All-tail}
@@ -19,14 +15,13 @@ use Rattle.cp_hall.specs.declared.hall.HallRow.{HallRow}
 use Rattle.cp_hall.specs.Hall.{HallObject, AreLegal, objects_of, history_at}
 use Rattle.cp_out.specs.Port.{PortView, GoesOn, goes_on-here, goes_on-on}
 use Rattle.cp_schedule.specs.Awake.{AllKnow, AllParked}
-use Rattle.cp_schedule.specs.Record.{AreDriven, IsReady, workers_setup}
+use Rattle.cp_schedule.specs.Record.{AreDriven, workers_setup}
 use Rattle.cp_schedule.specs.Ended.{IsFresh, record_ended}
 use Rattle.cp_schedule.proofs.Starting.{starts_ready}
-use Rattle.cp_crew_end.specs.Engines.{HasOnlyEngines}
 use Rattle.cp_turn.specs.Passes.{PassView, TurnstileView, IsOutside, AreFresh, fresh}
 use Rattle.cp_turn_hall.specs.Behind.{HallPassView, IsPassOf, AreNew, hall_at_start, new_pass, seen_at}
 use Rattle.cp_crew.specs.Crew.{IsLaterShell, AreLater, NoneStopped, MayBegin, IsFurther, HasGoneOn, GoesIfDriven, IsSoundIfParked}
-use Rattle.cp_crew.specs.Staff.{SeatedView, IsSeated, Worked, AllWorked, HaveWorked, IsOut, IsPortOut, all_seated, hall_pass}
+use Rattle.cp_crew.specs.Staff.{SeatedView, IsSeated, AllWorked, HaveWorked, IsOut, IsPortOut, all_seated, hall_pass}
 use Rattle.cp_crew.proofs.Gathering.{seated_length}
 use Rattle.cp_crew.proofs.Numbered.{Each, each_of, each_at, each_index, nobody_has}
 use Rattle.cp_crew.proofs.Working.{Drives, SeesAll, IsBack, are_seated, are_back, passes_back, writers_back, hall_numbers, port_numbers, drive_on, are_later, worked_length}

@@ -1,6 +1,6 @@
 -- The workers of a round, from before it to after it.
-use Rattle.std.proofs.Common.{◌≡◌, ◌≢◌, ℕ, zero, suc, ◌+◌, ◌<◌, ◌≤◌, List, [], ◌∷◌, ◌++◌, append-nil, length, refl, sym, ◌∙◌, ap, subst, Bool, true, false, cond, Option, Some, None, arith, eq-eqb, eqb-true}
-use Rattle.std.specs.Prelude.{All, map, slice_get, slice_index_or, ◌==◌, IsTrue}
+use Rattle.std.proofs.Common.{◌≡◌, ℕ, suc, ◌+◌, ◌<◌, List, [], ◌∷◌, ◌++◌, append-nil, length, refl, sym, ◌∙◌, ap, subst, Bool, true, false, cond, arith, eq-eqb}
+use Rattle.std.specs.Prelude.{All, map, slice_index_or, ◌==◌}
 use Rattle.std.proofs.lemmas.List.Elements.{filter-append, All-nil, All-cons, All-head, All-tail}
 use Rattle.cp_call.specs.declared.call.Entry.{Entry}
 use Rattle.cp_call.specs.declared.item.Item.{Item}
@@ -18,10 +18,9 @@ use Rattle.cp_hall.specs.Hall.{HallObject, objects_of, history_at}
 use Rattle.cp_out.specs.Port.{PortView}
 use Rattle.cp_turn.specs.Passes.{PassView, TurnstileView, IsOutside, ExtendsSeen, fresh}
 use Rattle.cp_turn_hall.specs.Behind.{HallPassView, SeatView, IsPassOf, IsSeenIn, hall_at_start, seen_at, seen_for}
-use Rattle.cp_turn_port.specs.Seat.{PortSeatView, IsSeatOf, wrote_for}
-use Rattle.cp_round.specs.Worker.{WorkerView, IsTied, HasWorked}
-use Rattle.cp_crew.specs.Crew.{IsLaterShell, AreLater}
-use Rattle.cp_crew.specs.Staff.{SeatedView, IsSeated, StaysSeated, Worked, AllWorked, seated, all_seated, hall_pass}
+use Rattle.cp_turn_port.specs.Seat.{PortSeatView, wrote_for}
+use Rattle.cp_crew.specs.Crew.{AreLater}
+use Rattle.cp_crew.specs.Staff.{SeatedView, IsSeated, Worked, AllWorked, seated, all_seated, hall_pass}
 use Rattle.cp_crew.proofs.Numbered.{Each}
 
 same_prefix : {X : Type 0} (xs ys : List X) → xs ≡ ys → IsPrefix xs ys

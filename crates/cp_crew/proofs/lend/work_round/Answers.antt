@@ -1,6 +1,5 @@
-use Rattle.std.proofs.Common.{◌≡◌, ◌<◌, ℕ, List, length, rules, sym, ◌∙◌, ap, subst, arith}
-use Rattle.std.specs.Prelude.{slice_index_or}
-use Rattle.cp_crew.specs.Staff.{SeatedView, Worked, AllWorked, all_seated}
+use Rattle.std.proofs.Common.{◌≡◌, List, length, ◌∙◌, ap, subst, arith}
+use Rattle.cp_crew.specs.Staff.{SeatedView, AllWorked, all_seated}
 use Rattle.cp_crew.proofs.Gathering.{seated_length}
 use Rattle.cp_crew.proofs.Working.{all_worked}
 use Rattle.cp_crew.proofs.lend.work_round.Goals as goal

@@ -1,4 +1,4 @@
-use Rattle.std.proofs.Common.{◌≡◌, ℕ, ◌<◌, Some, false, true}
+use Rattle.std.proofs.Common.{◌≡◌, ℕ, ◌<◌, Some, true}
 use Rattle.std.specs.Prelude.{slice_get}
 use Rattle.cp_shell.specs.Shell.{ShellView}
 use Rattle.cp_schedule.specs.Awake.{is_parked_now}

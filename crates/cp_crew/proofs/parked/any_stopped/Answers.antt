@@ -1,4 +1,4 @@
-use Rattle.std.proofs.Common.{◌≡◌, ℕ, length, refl, ◌∙◌, sym, Some, false, arith}
+use Rattle.std.proofs.Common.{◌≡◌, length, refl, ◌∙◌, sym, Some, false, arith}
 use Rattle.std.specs.Prelude.{slice_get}
 use Rattle.std.proofs.lemmas.Option.{slice_get_read}
 use Rattle.cp_shell.specs.Shell.{ShellView}

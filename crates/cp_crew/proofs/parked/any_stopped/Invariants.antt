@@ -1,7 +1,6 @@
-use Rattle.std.proofs.Common.{◌≡◌, ℕ, ◌<◌, Some, false, true}
+use Rattle.std.proofs.Common.{◌≡◌, ℕ, ◌<◌, Some, false}
 use Rattle.std.specs.Prelude.{slice_get}
 use Rattle.cp_shell.specs.Shell.{ShellView}
-use Rattle.cp_schedule.specs.Awake.{is_parked_now}
 use Rattle.cp_crew.proofs.parked.any_stopped.Given as goal
 
 abbrev pub invariant-loop-i : goal.invariant-loop-i

@@ -1,5 +1,4 @@
-use Rattle.std.proofs.Common.{◌≡◌, false, true, sym, ◌∙◌, ap, subst, rules}
-use Rattle.std.specs.Prelude.{All}
+use Rattle.std.proofs.Common.{◌≡◌, false, sym, ◌∙◌, subst}
 use Rattle.cp_crew.specs.Staff.{IsPortOut}
 use Rattle.cp_crew.specs.Crew.{NoneStopped}
 use Rattle.cp_crew.proofs.rounds.close_round.Goals as goal

@@ -1,4 +1,4 @@
-use Rattle.std.proofs.Common.{◌≡◌, length, sym, ◌∙◌, ap, subst, arith, None, true}
+use Rattle.std.proofs.Common.{◌≡◌, length, sym, ap, subst, arith, None}
 use Rattle.std.specs.Prelude.{All}
 use Rattle.cp_out.specs.Port.{GoesOn}
 use Rattle.cp_crew.specs.Crew.{HasGoneOn, NoneStopped}

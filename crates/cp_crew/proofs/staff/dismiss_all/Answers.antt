@@ -1,7 +1,7 @@
-use Rattle.std.proofs.Common.{◌≡◌, ◌∷◌, [], List, length, refl, sym, ◌∙◌, ap, subst, arith, rules}
+use Rattle.std.proofs.Common.{◌∙◌, ap, subst, arith, rules}
 use Rattle.std.specs.Prelude.{All, map}
 use Rattle.cp_crew.specs.Staff.{SeatedView, IsSeated, hall_pass}
-use Rattle.cp_crew.proofs.Gathering.{IsDismissing, none_gone, one_gone, all_gone}
+use Rattle.cp_crew.proofs.Gathering.{none_gone, one_gone, all_gone}
 use Rattle.cp_crew.proofs.staff.dismiss_all.Goals as goal
 
 pub loop-worker-init : goal.loop-worker-init

@@ -1,4 +1,4 @@
-use Rattle.std.proofs.Common.{◌≡◌, [], ◌∷◌, ◌++◌, List, length, refl, sym, ◌∙◌, ap, subst, arith, rules, append-nil}
+use Rattle.std.proofs.Common.{[], ◌∷◌, ◌++◌, List, sym, ◌∙◌, ap, subst, arith, rules, append-nil}
 use Rattle.std.specs.Prelude.{All}
 use mathlib.Core.List.{reverse}
 use Rattle.cp_crew.specs.Staff.{SeatedView, IsSeated, seated, all_seated}
