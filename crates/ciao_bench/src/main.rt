@@ -4,8 +4,10 @@
 
 mod append;
 mod export;
+mod facts;
 mod lists;
 mod nested;
+mod object;
 mod operators;
 mod pieces;
 mod read;

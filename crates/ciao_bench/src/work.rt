@@ -1,5 +1,6 @@
 use crate::append::append;
 use crate::export::export;
+use crate::facts::{facts_indexed, facts_listed, waiters_indexed, waiters_listed};
 use crate::nested::nested;
 use crate::operators::operators;
 use crate::read::read;
@@ -14,18 +15,22 @@ use std::alloc::{AllocError, Global};
 pub(crate) enum Work {
     Append,
     Export,
+    Facts,
+    FactsListed,
     Nested,
     Operators,
     Read,
     Tokens,
     Undo,
     Unify,
+    Waiters,
+    WaitersListed,
     Write,
 }
 
 /// The names of all pieces of work.
 pub(crate) const NAMES: &str =
-    "append, export, nested, operators, read, tokens, undo, unify or write";
+    "append, export, facts, facts_listed, nested, operators, read, tokens, undo, unify, waiters, waiters_listed or write";
 
 impl Work {
     /// The piece of work with this name.
@@ -34,6 +39,10 @@ impl Work {
             Some(Work::Append)
         } else if name == "export" {
             Some(Work::Export)
+        } else if name == "facts" {
+            Some(Work::Facts)
+        } else if name == "facts_listed" {
+            Some(Work::FactsListed)
         } else if name == "nested" {
             Some(Work::Nested)
         } else if name == "operators" {
@@ -46,6 +55,10 @@ impl Work {
             Some(Work::Undo)
         } else if name == "unify" {
             Some(Work::Unify)
+        } else if name == "waiters" {
+            Some(Work::Waiters)
+        } else if name == "waiters_listed" {
+            Some(Work::WaitersListed)
         } else if name == "write" {
             Some(Work::Write)
         } else {
@@ -57,12 +70,16 @@ impl Work {
         match self {
             Work::Append => "append",
             Work::Export => "export",
+            Work::Facts => "facts",
+            Work::FactsListed => "facts_listed",
             Work::Nested => "nested",
             Work::Operators => "operators",
             Work::Read => "read",
             Work::Tokens => "tokens",
             Work::Undo => "undo",
             Work::Unify => "unify",
+            Work::Waiters => "waiters",
+            Work::WaitersListed => "waiters_listed",
             Work::Write => "write",
         }
     }
@@ -72,12 +89,16 @@ impl Work {
         match self {
             Work::Append => append(alloc, count),
             Work::Export => export(alloc, count),
+            Work::Facts => facts_indexed(alloc, count),
+            Work::FactsListed => facts_listed(alloc, count),
             Work::Nested => nested(alloc, count),
             Work::Operators => operators(alloc, count),
             Work::Read => read(alloc, count),
             Work::Tokens => tokens(alloc, count),
             Work::Undo => undo(alloc, count),
             Work::Unify => unify(alloc, count),
+            Work::Waiters => waiters_indexed(alloc, count),
+            Work::WaitersListed => waiters_listed(alloc, count),
             Work::Write => write(alloc, count),
         }
     }
